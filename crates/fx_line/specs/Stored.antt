@@ -1,0 +1,74 @@
+-- Stored points: what the loaded points of the buckets are, apart from how a store keeps them.
+use Rattle.std.specs.Prelude.{◌≡◌, ℕ, ℤ, ◌≤ℤ◌, ◌<ℤ◌, ◌^◌, pos, neg_ℤ, Bool, true, false, ◌&&◌, not, List, [], ◌∷◌, map, filter, fold, Option, None, Some, nat_eq, All, IsTrue}
+use Rattle.std.specs.declared.cmp.Ordering.{Ordering}
+use Rattle.std.specs.Ordering.{nat_cmp, int_cmp}
+use Rattle.std.specs.BTreeMap.{insert_entry}
+use Rattle.std.specs.Cmp.Lexicographic.{pointwise, slice_cmp}
+use Rattle.fx_value.specs.declared.scalar.Kind.{Kind}
+use Rattle.fx_value.specs.declared.scalar.Scalar.{Scalar}
+use Rattle.fx_value.specs.declared.scalar.Scalar.TheVariants as scalar
+use Rattle.fx_value.specs.Scalar.{kind_of}
+use Rattle.fx_line.specs.declared.point.Tag.{Tag}
+use Rattle.fx_line.specs.declared.point.SeriesKey.{SeriesKey}
+use Rattle.fx_line.specs.declared.point.Point.{Point}
+
+abbrev pub same_text : List ℕ → List ℕ → Bool
+same_text = pointwise nat_eq
+
+abbrev pub same_tag : Tag → Tag → Bool
+same_tag a b = same_text a.key b.key && same_text a.value b.value
+
+-- two keys name one series: the same measurement, tags and field
+abbrev pub same_series : SeriesKey → SeriesKey → Bool
+same_series a b = same_text a.measurement b.measurement && (pointwise same_tag a.tags b.tags && same_text a.field b.field)
+
+-- a point and the bucket into which it was put
+pub record StoredPoint : Type 0 where
+  pub bucket : List ℕ
+  pub point : Point
+
+-- a series is named by its bucket and its key
+pub record SeriesId : Type 0 where
+  pub bucket : List ℕ
+  pub key : SeriesKey
+
+abbrev pub same_id : SeriesId → SeriesId → Bool
+same_id a b = same_text a.bucket b.bucket && same_series a.key b.key
+
+abbrev pub id_of : StoredPoint → SeriesId
+id_of s = record { bucket = s.bucket; key = s.point.series }
+
+-- each name once, in the order in which they first stand
+abbrev pub first_seen : List SeriesId → List SeriesId
+first_seen [] = []
+first_seen (a ∷ rest) = a ∷ filter (λ b. not (same_id a b)) (first_seen rest)
+
+-- the values by rising time; a later point of a time replaces the value
+abbrev pub by_time : List Point → List (ℤ × Scalar)
+by_time = fold (λ entries p. insert_entry int_cmp entries p.time p.value) []
+
+-- the points of a series, in the order in which they were put
+abbrev pub points_of : SeriesId → List StoredPoint → List Point
+points_of id stored = map (λ s. s.point) (filter (λ s. same_id id (id_of s)) stored)
+
+-- the kind of the first of some points
+abbrev pub kind_of_points : List Point → Option Kind
+kind_of_points [] = None
+kind_of_points (p ∷ rest) = kind_of p.value
+
+-- a series as stored points give it: its name, the kind of its values, and the values by rising time
+pub record Series : Type 0 where
+  pub id : SeriesId
+  pub kind : Option Kind
+  pub values : List (ℤ × Scalar)
+
+abbrev pub series_of : List StoredPoint → SeriesId → Series
+series_of stored id =
+    let points = points_of id stored in record { id = id; kind = kind_of_points points; values = by_time points }
+
+-- all series of stored points, in the order in which their first points were put
+abbrev pub grouped : List StoredPoint → List Series
+grouped stored = map (series_of stored) (first_seen (map id_of stored))
+
+abbrev pub text_cmp : List ℕ → List ℕ → Ordering
+text_cmp = slice_cmp nat_cmp
