@@ -1,9 +1,12 @@
 -- Stored points: what the loaded points of the buckets are, apart from how a store keeps them.
-use Rattle.std.specs.Prelude.{◌≡◌, ℕ, ℤ, ◌≤ℤ◌, ◌<ℤ◌, ◌^◌, pos, neg_ℤ, Bool, true, false, ◌&&◌, not, List, [], ◌∷◌, map, filter, fold, Option, None, Some, nat_eq, All, IsTrue}
-use Rattle.std.specs.declared.cmp.Ordering.{Ordering}
-use Rattle.std.specs.Ordering.{nat_cmp, int_cmp}
+use Rattle.std.specs.Prelude.{◌≡◌, ℕ, ℤ, Bool, false, ◌&&◌, not, List, [], ◌∷◌, map, filter, fold, Option, None, Some, nat_eq, All, FitsSigned}
+use Rattle.std.specs.Int.{w64}
+use Rattle.std.specs.Ordering.{int_cmp}
+use Rattle.std.specs.List.{starts_with}
+use Rattle.std.specs.List.Sorted.{IsStrictlySortedBy}
 use Rattle.std.specs.BTreeMap.{insert_entry}
-use Rattle.std.specs.Cmp.Lexicographic.{pointwise, slice_cmp}
+use Rattle.std.specs.Cmp.Lexicographic.{pointwise}
+use Rattle.fx_base.specs.Text.{text_cmp, same_text}
 use Rattle.fx_value.specs.declared.scalar.Kind.{Kind}
 use Rattle.fx_value.specs.declared.scalar.Scalar.{Scalar}
 use Rattle.fx_value.specs.declared.scalar.Scalar.TheVariants as scalar
@@ -12,8 +15,21 @@ use Rattle.fx_line.specs.declared.point.Tag.{Tag}
 use Rattle.fx_line.specs.declared.point.SeriesKey.{SeriesKey}
 use Rattle.fx_line.specs.declared.point.Point.{Point}
 
-abbrev pub same_text : List ℕ → List ℕ → Bool
-same_text = pointwise nat_eq
+-- a value that a point may have: a Boolean, a text, or an integer of 64 bits
+abbrev pub IsStorable : Scalar → Type 0
+IsStorable scalar.Null = ⊥
+IsStorable (scalar.Bool b) = Unit {0}
+IsStorable (scalar.Int n) = FitsSigned w64 n
+IsStorable (scalar.Text t) = Unit {0}
+IsStorable (scalar.Time t) = ⊥
+
+-- what `put` asks of a point: its tags rise strictly by key, none of these keys is one of the engine's own, and its
+-- numbers are in the range of their types
+pub record IsLawful (p : Point) : Type 0 where
+  pub tags : IsStrictlySortedBy text_cmp (map (λ t. t.key) p.series.tags)
+  pub keys : All (λ t. starts_with nat_eq t.key (95 ∷ []) ≡ false) p.series.tags
+  pub time : FitsSigned w64 p.time
+  pub value : IsStorable p.value
 
 abbrev pub same_tag : Tag → Tag → Bool
 same_tag a b = same_text a.key b.key && same_text a.value b.value
@@ -70,5 +86,3 @@ series_of stored id =
 abbrev pub grouped : List StoredPoint → List Series
 grouped stored = map (series_of stored) (first_seen (map id_of stored))
 
-abbrev pub text_cmp : List ℕ → List ℕ → Ordering
-text_cmp = slice_cmp nat_cmp
