@@ -1,10 +1,9 @@
 -- What a row of a head answers: a map over the values of the head's map.
 use Rattle.std.proofs.Common.{◌≡◌, ℕ, Bool, true, false, T, List, [], ◌∷◌, map, refl, sym, ap, subst, ◌∙◌}
-use Rattle.std.specs.Prelude.{◌&&◌, cond, Option, None, Some}
+use Rattle.std.specs.Prelude.{◌&&◌, cond, Option, Some}
 use Rattle.std.specs.Option.{option_map}
-use Rattle.std.specs.Ordering.{is_lt, eq_by_cmp, nat_cmp}
-use Rattle.std.specs.Cmp.{IsTotalOrder}
-use Rattle.std.specs.Cmp.Lexicographic.{slice_cmp, nat_list_cmp_total}
+use Rattle.std.specs.Ordering.{is_lt, eq_by_cmp}
+use Rattle.std.specs.Cmp.Lexicographic.{nat_list_cmp_total}
 use Rattle.std.specs.FinMap as fin
 use Rattle.std.specs.FinMap.{FinMap, IsAntisymmetric}
 use Rattle.std.specs.FinMap.Entries.{find, is_sorted, below_all}
@@ -78,3 +77,13 @@ module _ (a b : Scalar) where
   pub row_answers : (h : FinMap text_cmp Source) (m : FinMap text_cmp Scalar) (q : List ℕ) (o : Option Source) → row_of h a b ≡ m
       → o ≡ fin.get h q → option_map (value_at a b) o ≡ fin.get m q
   row_answers h m q o view is = ap (option_map (value_at a b)) is ∙ sym (get-row_of h q) ∙ ap (λ n. fin.get n q) view
+
+  -- to give a label a source in the head is to give it that source's value in the row
+  pub row_with : (h g : FinMap text_cmp Source) (m : FinMap text_cmp Scalar) (k : List ℕ) (s : Source) → row_of h a b ≡ m
+      → g ≡ fin.insert h k s → row_of g a b ≡ fin.insert m k (value_at a b s)
+  row_with h g m k s view is =
+      ap (λ x. row_of x a b) is ∙ row_of-insert h k s ∙ ap (λ n. fin.insert n k (value_at a b s)) view
+
+  -- the labels of a row are its head's
+  pub labels_are : (h : FinMap text_cmp Source) (m : FinMap text_cmp Scalar) → row_of h a b ≡ m → fin.keys h ≡ fin.keys m
+  labels_are h m view = sym (keys-row_of h) ∙ ap fin.keys view

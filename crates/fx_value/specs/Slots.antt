@@ -15,3 +15,6 @@ entries_of = map entry_of
 -- the labels rise strictly by bytes
 abbrev pub IsRising : List (List ℕ × Source) → Type 0
 IsRising es = T (is_sorted text_cmp es)
+
+abbrev pub labels_of : List Slot → List (List ℕ)
+labels_of = map (λ s. s.label)

@@ -1,10 +1,10 @@
-ghost use Rattle.std.specs.Prelude.{◌≡◌, IfOk};
+ghost use Rattle.std.specs.Prelude.{◌≡◌, ◌↔◌, IfOk, IsTrue};
 ghost use Rattle.std.specs.Option.{option_map};
 ghost use Rattle.std.specs.FinMap as map;
 
-use crate::slot::{Slot, place_of, with_source};
+use crate::slot::{Slot, have_same_labels, labels_in, place_of, with_source};
 use crate::source::Source;
-use fx_base::{Memory, Text};
+use fx_base::{List, Memory, Text};
 use std::alloc::Global;
 use std::marker::Model;
 
@@ -60,5 +60,19 @@ impl Head {
     {
         let slots = with_source(alloc, &self.slots, label, source)?;
         Ok(Head { slots })
+    }
+
+    /// The labels, rising by bytes.
+    pub fn labels(&self, alloc: Global) -> Result<List<Text>, Memory>
+        ensures { IfOk result (λ v. v ≡ map.keys self.now) }
+    {
+        labels_in(alloc, &self.slots)
+    }
+
+    /// Whether the heads have the same labels.
+    pub fn same_labels(&self, other: &Head) -> bool
+        ensures { IsTrue result ↔ (map.keys self.now ≡ map.keys other.now) }
+    {
+        have_same_labels(&self.slots, &other.slots)
     }
 }

@@ -81,4 +81,31 @@ impl Row {
             second: self.second.copy()?,
         })
     }
+
+    /// Gives the label this value; a refusal leaves the row as it was.
+    pub fn set(&mut self, alloc: Global, label: Text, value: Scalar) -> Result<(), Memory>
+        ensures ok { OnOk result (self.new ≡ map.insert self.old label value) }
+        ensures err { OnErr result (self.new ≡ self.old) }
+    {
+        let head = self
+            .head
+            .as_ref()
+            .with(alloc, &label, Source::Fixed(value))?;
+        self.head = Rc::new(alloc, head)?;
+        Ok(())
+    }
+
+    /// The labels, rising by bytes.
+    pub fn labels(&self, alloc: Global) -> Result<List<Text>, Memory>
+        ensures { IfOk result (λ v. v ≡ map.keys self.now) }
+    {
+        self.head.as_ref().labels(alloc)
+    }
+
+    /// Whether the rows have the same labels.
+    pub fn same_labels(&self, other: &Row) -> bool
+        ensures { IsTrue result ↔ (map.keys self.now ≡ map.keys other.now) }
+    {
+        self.head.as_ref().same_labels(other.head.as_ref())
+    }
 }

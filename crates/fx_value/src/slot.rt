@@ -1,11 +1,13 @@
 ghost use Rattle.std.specs.Prelude.{◌≡◌, IfOk, MatchResult};
+ghost use Rattle.std.specs.Cmp.Lexicographic.{pointwise};
+ghost use Rattle.fx_base.specs.Text.{same_text};
 ghost use Rattle.std.specs.FinMap.Entries.{put};
 ghost use Rattle.fx_base.specs.Text.{text_cmp};
 ghost use Rattle.fx_value.specs.Place.{StandsAt, BelongsAt};
-ghost use Rattle.fx_value.specs.Slots.{entries_of};
+ghost use Rattle.fx_value.specs.Slots.{entries_of, labels_of};
 
 use crate::source::Source;
-use fx_base::{Memory, Text};
+use fx_base::{List, Memory, Text};
 use std::alloc::Global;
 use std::cmp::Ordering;
 
@@ -76,4 +78,30 @@ pub fn with_source(
         }
     }
     Ok(copies)
+}
+
+/// The labels of the slots, in their order.
+pub fn labels_in(alloc: Global, slots: &Vec<Slot>) -> Result<List<Text>, Memory>
+    ensures { IfOk result (λ v. v ≡ labels_of slots.now.items) }
+{
+    let mut labels = Vec::with_capacity(alloc, slots.len())?;
+    for slot in slots {
+        labels.push(slot.label.copy()?)?;
+    }
+    Ok(List::of(labels))
+}
+
+/// Whether the slots have the same labels in the same order.
+pub fn have_same_labels(slots: &Vec<Slot>, others: &Vec<Slot>) -> bool
+    ensures { result ≡ pointwise same_text (labels_of slots.now.items) (labels_of others.now.items) }
+{
+    if slots.len() != others.len() {
+        return false;
+    }
+    for (i, slot) in slots.iter().enumerate() {
+        if slot.label != others[i].label {
+            return false;
+        }
+    }
+    true
 }
