@@ -1,0 +1,53 @@
+-- What the library prints for an instant is the text of the instant.
+use Rattle.std.proofs.Common.{◌≡◌, ℕ, ◌/◌, ◌%◌, ◌<◌, [], ◌∷◌, ◌++◌, None, false, ℤ, pos, negsuc, ◌+ℤ◌, ◌≤ℤ◌, unsigned_abs, FitsSigned, w64, refl, sym, ap, ◌∙◌, arith}
+use Rattle.std.specs.Int.{int_div_euclid, int_rem_euclid}
+use Rattle.jiff_core.specs.declared.civil.datetime.DateTime.{DateTime}
+use Rattle.jiff_core.specs.Date.{epoch_day}
+use Rattle.jiff_core.specs.Time.{time_nanos}
+use Rattle.jiff_core.specs.DateTime.{civil_nanos}
+use Rattle.jiff_core.proofs.SignedLemmas.{signed_arith, int_div_euclid-parts, int_rem_euclid-parts, unsigned_abs-parts}
+use Rattle.jiff_core.proofs.DateTimeLemmas.{civil_nanos-parts, epoch_day-civil_nanos}
+use Rattle.jiff_fmt.specs.Text.{datetime_text}
+use Rattle.fx_time.specs.Calendar.{nanos_of_day}
+use Rattle.fx_time.specs.Time.{time_text}
+use Rattle.fx_time.proofs.CalendarLemmas.{date_after-same}
+
+-- the days from the year 0 to an instant
+abbrev days : ℤ → ℕ
+days t = unsigned_abs (int_div_euclid t (pos nanos_of_day) +ℤ pos 719_528)
+
+-- the nanoseconds from midnight to an instant
+abbrev nanos : ℤ → ℕ
+nanos t = unsigned_abs (int_rem_euclid t (pos nanos_of_day))
+
+nonneg_abs : (z : ℤ) → pos 0 ≤ℤ z → pos (unsigned_abs z) ≡ z
+nonneg_abs (pos n) h = refl
+nonneg_abs (negsuc n) h = absurd (omega (arith, signed_arith))
+
+days_is : (t : ℤ) → FitsSigned w64 t → (pos (days t) ≡ int_div_euclid t (pos nanos_of_day) +ℤ pos 719_528) × (days t < 1_000_000)
+days_is t f =
+    let parts = int_div_euclid-parts t nanos_of_day (omega arith) in
+    let low : pos 0 ≤ℤ (int_div_euclid t (pos nanos_of_day) +ℤ pos 719_528) = omega (arith, signed_arith, f) in
+    let same = nonneg_abs (int_div_euclid t (pos nanos_of_day) +ℤ pos 719_528) low in
+    (same, omega (arith, signed_arith, f))
+
+nanos_is : (dt : DateTime) (t : ℤ) → civil_nanos dt ≡ t → nanos t ≡ time_nanos dt.time
+nanos_is dt t e =
+    let whole = epoch_day-civil_nanos dt ∙ ap (λ z. int_div_euclid z (pos nanos_of_day)) e in
+    let left = int_rem_euclid-parts t nanos_of_day (omega arith) in
+    let same = unsigned_abs-parts (int_rem_euclid t (pos nanos_of_day)) in
+    let parts = sym (civil_nanos-parts dt) ∙ e in
+    omega (arith, signed_arith)
+
+pub printed_is : (dt : DateTime) (t : ℤ) → civil_nanos dt ≡ t → FitsSigned w64 t → datetime_text false 84 None dt ++ 90 ∷ [] ≡ time_text t
+unfolding time_text
+printed_is dt t e f =
+    let day = days_is t f in
+    let here : epoch_day dt.date +ℤ pos 719_528 ≡ pos (days t) = ap (λ z. z +ℤ pos 719_528) (epoch_day-civil_nanos dt ∙ ap (λ z. int_div_euclid z (pos nanos_of_day)) e) ∙ sym day.0 in
+    let date = date_after-same (days t) dt.date day.1 here in
+    let within : nanos t ≡ time_nanos dt.time = nanos_is dt t e in
+    let hour : dt.time.hour ≡ nanos t / 3_600_000_000_000 = omega (arith, dt.time.minute_in, dt.time.second_in, dt.time.subsec_in) in
+    let minute : dt.time.minute ≡ nanos t / 60_000_000_000 % 60 = omega (arith, dt.time.minute_in, dt.time.second_in, dt.time.subsec_in) in
+    let second : dt.time.second ≡ nanos t / 1_000_000_000 % 60 = omega (arith, dt.time.minute_in, dt.time.second_in, dt.time.subsec_in) in
+    let fraction : dt.time.subsec_nanosecond ≡ nanos t % 1_000_000_000 = omega (arith, dt.time.minute_in, dt.time.second_in, dt.time.subsec_in) in
+    rw (date.0, date.1, date.2, hour, minute, second, fraction) refl

@@ -1,0 +1,8 @@
+//! Times as texts and as numbers: nanoseconds since 1970-01-01T00:00:00Z.
+#![tactic(auto)]
+
+mod print;
+mod span;
+
+pub use print::{print_time, push_time};
+pub use span::Span;
