@@ -1,5 +1,5 @@
 -- The text of a record in the words of the crate `csv` is that of this crate.
-use Rattle.std.proofs.Common.{◌≡◌, ℕ, ◌≤◌, List, [], ◌∷◌, ◌++◌, length, refl, ap, sym, ◌∙◌, arith, append_assoc}
+use Rattle.std.proofs.Common.{◌≡◌, ℕ, ◌≤◌, List, [], ◌∷◌, length, refl, arith, append_assoc}
 use Rattle.std.specs.List.{flat_map, list_any}
 use Rattle.csv.specs.Writing as csv
 use Rattle.fx_csv.specs.Records.{comma, doubled, field_bytes, is_special, line_end, record_bytes}

@@ -1,3 +1,6 @@
-pub mod Records
-pub mod Writers
+pub mod Cells
 pub mod Columns
+pub mod Lines
+pub mod Records
+pub mod Runs
+pub mod Writers

@@ -2,10 +2,9 @@
 ghost use Rattle.std.specs.Prelude.{◌≡◌, IfOk};
 ghost use Rattle.fx_csv.specs.Columns.{label_rank};
 
+use fx_base::{Memory, Text};
 use std::cmp::Ordering;
 use std::marker::Model;
-
-use fx_base::{Memory, Text};
 
 /// A label that compares as columns stand. It keeps its place among the labels that stand first.
 #[derive(Drop)]
@@ -63,6 +62,7 @@ impl PartialEq for ColumnName {
     ghost use Rattle.fx_csv.specs.Columns.{column_cmp_total};
 
     ghost eq = { eq_by_cmp column_cmp };
+
     ghost laws = { partial_equiv_from_equiv (eq_by_cmp_equiv column_cmp_total) };
 
     fn eq(&self, other: &ColumnName) -> bool {
@@ -84,6 +84,7 @@ impl PartialOrd for ColumnName {
     ghost use Rattle.fx_csv.specs.Columns.{column_cmp_total};
 
     ghost partial_cmp = { as_partial_cmp column_cmp };
+
     ghost laws = { partial_order_from_total column_cmp_total };
 
     fn partial_cmp(&self, other: &ColumnName) -> Option<Ordering> {
@@ -97,8 +98,11 @@ impl Ord for ColumnName {
     ghost use Rattle.fx_csv.specs.Columns.{column_cmp_total};
 
     ghost cmp = { column_cmp };
+
     ghost total = { column_cmp_total };
+
     ghost matches_partial_cmp = { λ x y. refl };
+
     ghost matches_eq = { λ x y. refl };
 
     fn cmp(&self, other: &ColumnName) -> Ordering {

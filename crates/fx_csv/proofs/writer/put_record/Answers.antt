@@ -1,5 +1,5 @@
 -- What the crate's writer appends is the record's bytes.
-use Rattle.std.proofs.Common.{ℕ, ◌≢◌, ◌≡◌, ◌∙◌}
+use Rattle.std.proofs.Common.{◌≢◌, ◌∙◌}
 use Rattle.csv.specs.Records.{fields_of}
 use Rattle.csv.specs.Writing.{writer_setup}
 use Rattle.csv.specs.declared.writer.QuoteStyle.TheVariants as style
