@@ -1,0 +1,6 @@
+pub mod Cells
+pub mod Columns
+pub mod Lines
+pub mod Records
+pub mod Runs
+pub mod Writers

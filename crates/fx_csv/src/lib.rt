@@ -1,0 +1,6 @@
+//! Annotated CSV: the tables of a yield as the bytes that a run writes.
+#![tactic(auto)]
+
+mod line;
+mod name;
+mod writer;
