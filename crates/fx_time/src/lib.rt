@@ -1,6 +1,7 @@
 //! Times as texts and as numbers: nanoseconds since 1970-01-01T00:00:00Z.
 #![tactic(auto)]
 
+mod front;
 mod print;
 mod span;
 
