@@ -1,7 +1,8 @@
 -- What stands at the front of a text: a value and the text after it, or nothing.
-use Rattle.std.specs.Prelude.{ℕ, ◌+◌, ◌*◌, ◌==◌, ◌||◌, nat_lt, Bool, true, false, if◌then◌else◌, List, [], ◌∷◌, take, drop, Option, Some, None}
+use Rattle.std.specs.Prelude.{ℕ, ◌+◌, ◌*◌, ◌==◌, ◌||◌, nat_lt, Bool, true, false, if◌then◌else◌, List, [], ◌∷◌, length, take, drop, Option, Some, None}
 use Rattle.std.specs.List.{prefix_len}
 use Rattle.std.specs.Char.{is_ascii_digit}
+use Rattle.fx_time.specs.declared.read.Moment.{Moment}
 use Rattle.jiff_fmt.specs.Reader.{Digits, two_digits, four_digits, fraction_value}
 
 infixl 10 ◌>>=◌
@@ -60,3 +61,27 @@ zone_front [] = None
 zone_front (c ∷ rest) =
     if c == 90 then Some ((false, 0), rest)
     else (if (c == 43) || (c == 45) then behind_front (c == 45) rest else None)
+
+abbrev pub midnight : ℕ × ℕ × ℕ → Moment
+midnight date = record { year = date.0; month = date.1; day = date.2; nanos = 0; behind = false; minutes = 0 }
+
+-- a clock, a fraction and a zone after a date, up to the end
+unfoldable pub clock_after : ℕ × ℕ × ℕ → List ℕ → Option Moment
+clock_after date text = do
+  seconds ← clock_front text
+  billion ← fraction_front seconds.1
+  zone ← zone_front billion.1
+  if length zone.1 == 0 then Some (record {
+    year = date.0;
+    month = date.1;
+    day = date.2;
+    nanos = seconds.0 * 1_000_000_000 + billion.0;
+    behind = zone.0.0;
+    minutes = zone.0.1;
+  }) else None
+
+-- the whole text: a date alone, which is midnight at UTC, or a date, a clock, a fraction and a zone
+unfoldable pub moment_front : List ℕ → Option Moment
+moment_front text = do
+  date ← date_front text
+  if length date.1 == 0 then Some (midnight date.0) else clock_after date.0 date.1

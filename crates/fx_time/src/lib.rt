@@ -3,7 +3,9 @@
 
 mod front;
 mod print;
+mod read;
 mod span;
 
 pub use print::{print_time, push_time};
+pub use read::read_time;
 pub use span::Span;
