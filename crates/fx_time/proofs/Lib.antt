@@ -1,2 +1,3 @@
 pub mod CalendarLemmas
+pub mod FrontLemmas
 pub mod PrintLemmas
