@@ -60,8 +60,8 @@ unfolding date_after
 date_after-is zero = record { month = search rules; day = search rules; count = day_zero }
 date_after-is (suc n) = next_is n (date_after n) (date_after-is n)
 
--- so few days end long before the year 10,000
-year_small : (y m d n : ℕ) → 1 ≤ d → day_count (pos y) m d ≡ n + 3_652_425 → n < 1_000_000 → y ≤ 9999
+-- so few days end before the year 10,000
+pub year_small : (y m d n : ℕ) → 1 ≤ d → day_count (pos y) m d ≡ n + 3_652_425 → n < 3_652_425 → y ≤ 9999
 year_small y m d n first count small = elim (leb_tells y 9999) [
   | inl low ↦ low.1
   | inr high ↦
@@ -74,7 +74,7 @@ year_small y m d n first count small = elim (leb_tells y 9999) [
 ]
 
 -- the day number of a date of the library is the one to which counting comes
-pub date_after-same : (n : ℕ) (d : Civil) → n < 1_000_000 → epoch_day d +ℤ pos 719_528 ≡ pos n
+pub date_after-same : (n : ℕ) (d : Civil) → n < 3_652_425 → epoch_day d +ℤ pos 719_528 ≡ pos n
     → (d.year ≡ pos (date_after n).year) × (d.month ≡ (date_after n).month) × (d.day ≡ (date_after n).day)
 date_after-same n d small e =
     let is = date_after-is n in

@@ -19,7 +19,7 @@ use Rattle.fx_time.specs.Front.{◌>>=◌, two_past, date_front, clock_front, bi
 use Rattle.fx_time.specs.Calendar.{Date}
 use Rattle.fx_time.specs.Time.{date_text, fraction_text, IsFraction, Zone, Utc, Ahead, Behind, IsZone, zone_text, zone_nanos}
 
-some_back : {A : Type 0} (a b : A) → Some a ≡ Some b → a ≡ b
+pub some_back : {A : Type 0} (a b : A) → Some a ≡ Some b → a ≡ b
 some_back a b h = cc
 
 -- what a step gave came from a value before it

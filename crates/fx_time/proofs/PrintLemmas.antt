@@ -24,7 +24,7 @@ nonneg_abs : (z : ℤ) → pos 0 ≤ℤ z → pos (unsigned_abs z) ≡ z
 nonneg_abs (pos n) h = refl
 nonneg_abs (negsuc n) h = absurd (omega (arith, signed_arith))
 
-days_is : (t : ℤ) → FitsSigned w64 t → (pos (days t) ≡ int_div_euclid t (pos nanos_of_day) +ℤ pos 719_528) × (days t < 1_000_000)
+days_is : (t : ℤ) → FitsSigned w64 t → (pos (days t) ≡ int_div_euclid t (pos nanos_of_day) +ℤ pos 719_528) × (days t < 3_652_425)
 days_is t f =
     let parts = int_div_euclid-parts t nanos_of_day (omega arith) in
     let low : pos 0 ≤ℤ (int_div_euclid t (pos nanos_of_day) +ℤ pos 719_528) = omega (arith, signed_arith, f) in
