@@ -1,5 +1,5 @@
 -- The parts that are read off a text are those of the time that it spells.
-use Rattle.std.proofs.Common.{◌≡◌, ℕ, zero, suc, ◌+◌, ◌-◌, ◌*◌, ◌/◌, ◌%◌, ◌<◌, ◌≤◌, ◌==◌, ◌⊎◌, inl, inr, Bool, true, false, List, [], ◌∷◌, ◌++◌, length, Option, Some, None, ℤ, pos, negsuc, neg_ℤ, ◌+ℤ◌, ◌-ℤ◌, ◌*ℤ◌, ◌≤ℤ◌, ◌<ℤ◌, FitsSigned, w64, refl, sym, ap, if◌then◌else◌, ◌^◌, subst, ◌∙◌, arith}
+use Rattle.std.proofs.Common.{◌≡◌, ℕ, zero, suc, ◌+◌, ◌-◌, ◌*◌, ◌/◌, ◌%◌, ◌<◌, ◌≤◌, ◌==◌, ◌⊎◌, inl, inr, Bool, true, false, List, [], ◌∷◌, ◌++◌, length, Some, None, ℤ, pos, neg_ℤ, ◌-ℤ◌, ◌≤ℤ◌, FitsSigned, w64, refl, sym, ap, if◌then◌else◌, ◌^◌, ◌↔◌, subst, ◌∙◌, arith}
 use Rattle.std.proofs.lemmas.Bool.Decides.{nat_tests}
 use Rattle.std.proofs.Common.{append-nil}
 use Rattle.std.proofs.Math.Nat.{mul-le-mul_right}
@@ -14,7 +14,7 @@ use Rattle.jiff_fmt.proofs.Cases.{by_bool}
 use Rattle.fx_time.specs.declared.read.Moment.{Moment}
 use Rattle.fx_time.specs.Calendar.{Date, date_after, clock_on, nanos_of_day}
 use Rattle.fx_time.specs.Front.{date_front, clock_front, fraction_front, zone_front, moment_front, clock_after, midnight}
-use Rattle.fx_time.specs.Time.{date_text, seconds_text, fraction_text, zone_text, zone_nanos, IsZone, Zone, Utc, Ahead, Behind, instant, IsFraction, IsMidnight, IsMoment}
+use Rattle.fx_time.specs.Time.{date_text, seconds_text, fraction_text, zone_text, zone_nanos, IsZone, Zone, Utc, Ahead, Behind, instant, IsFraction, IsMidnight, IsMoment, IsTime}
 use Rattle.fx_time.proofs.CalendarLemmas.{date_after-is, year_small}
 use Rattle.fx_time.proofs.FrontLemmas.{then_back, some_back, date_of, date_back, clock_back, clock_digits, fraction_back, zone_back, date_is, clock_is, fraction_is, zone_is, zone_stops}
 
@@ -124,7 +124,7 @@ moment_means text m n t h day value =
       digits_in = after.digits_in;
       zone_in = after.zone_in;
       spelled = date.3 ∙ ap (λ r. date_text (date_of d.0) ++ r) after.spelled ∙ ap (λ x. date_text x ++ clock_digits (m.nanos / 1_000_000_000) ++ fraction_text after.digits ++ zone_text after.zone) same
-      ∙ ap (λ x. x ++ fraction_text after.digits ++ zone_text after.zone) (sym (seconds_spelled (date_after n) m.nanos));
+          ∙ ap (λ x. x ++ fraction_text after.digits ++ zone_text after.zone) (sym (seconds_spelled (date_after n) m.nanos));
       value = value ∙ ap (λ o. instant n m.nanos -ℤ o) after.offset;
     })))
 
@@ -177,11 +177,43 @@ moment_reads text t f h =
     let rest : List ℕ = clock_digits (h.nanos / 1_000_000_000) ++ fraction_text h.digits ++ zone_text h.zone in
     let more : (length rest == 0) ≡ false = grind (arith, nat_tests) in
     let spelled : text ≡ date_text d ++ rest = h.spelled ∙ ap (λ x. x ++ fraction_text h.digits ++ zone_text h.zone) (seconds_spelled d h.nanos) in
-    let after = after_is (d.year, d.month, d.day) h.nanos h.digits h.zone z.0 z.1 h.nanos_in h.digits_in z.2 in
-    (record { year = d.year; month = d.month; day = d.day; nanos = h.nanos; behind = z.0; minutes = z.1 },
-    n, rw (spelled, date_is d rest small.0 small.1 small.2, more) after, refl, value ∙ ap (λ o. instant n h.nanos -ℤ o) (sym z.3))
+    let after = after_is (d.year, d.month, d.day) h.nanos h.digits h.zone z.0 z.1 h.nanos_in h.digits_in z.2 in (
+      record { year = d.year; month = d.month; day = d.day; nanos = h.nanos; behind = z.0; minutes = z.1 },
+      n,
+      rw (spelled, date_is d rest small.0 small.1 small.2, more) after,
+      refl,
+      value ∙ ap (λ o. instant n h.nanos -ℤ o) (sym z.3),
+    )
 
 -- a time is read
 pub time_reads : (text : List ℕ) (t : ℤ) → FitsSigned w64 t → IsMidnight text t ⊎ IsMoment text t → IsRead text t
 time_reads text t f (inl h) = midnight_reads text t f h
 time_reads text t f (inr h) = moment_reads text t f h
+
+-- no time is spelled where no moment is read
+pub no_moment : (text : List ℕ) (t : ℤ) → moment_front text ≡ None → IsTime text t → ⊥
+no_moment text t none h =
+    let read = time_reads text t h.0 h.1 in
+    let some = sym none ∙ read.2 in
+    cc
+
+same_moment : (text : List ℕ) (m k : Moment) → moment_front text ≡ Some m → moment_front text ≡ Some k → k ≡ m
+same_moment text m k a b = some_back k m (sym b ∙ a)
+
+-- nor where the calendar has no such date
+pub no_date : (text : List ℕ) (t : ℤ) (m : Moment) → moment_front text ≡ Some m → ((n : ℕ) → date_after n ≡ date_of_moment m → ⊥) → IsTime text t → ⊥
+no_date text t m moment none h =
+    let read = time_reads text t h.0 h.1 in
+    none read.1 (read.3 ∙ ap date_of_moment (same_moment text m read.0 moment read.2))
+
+-- and a moment of a date of the calendar is the one that the text spells
+pub time_is : (text : List ℕ) (t : ℤ) (m : Moment) (n : ℕ) → moment_front text ≡ Some m → date_after n ≡ date_of_moment m
+    → ((k : ℕ) → date_after k ≡ date_of_moment m → k ≡ n) → IsTime text t ↔ (FitsSigned w64 t × (t ≡ moment_at n m))
+time_is text t m n moment date only = (
+  λ h.
+      let read = time_reads text t h.0 h.1 in
+      let same = same_moment text m read.0 moment read.2 in
+      let days = only read.1 (read.3 ∙ ap date_of_moment same) in
+      (h.0, read.4 ∙ ap (λ k. moment_at k read.0) days ∙ ap (moment_at n) same),
+  λ h. (h.0, moment_means text m n t moment date h.1),
+)

@@ -69,7 +69,10 @@ pub(crate) fn clock(s: &[u8]) -> Option<(u32, &[u8])>
     if hour > 23 || minute > 59 || second > 59 {
         return None;
     }
-    Some((hour as u32 * 3600 + minute as u32 * 60 + second as u32, rest))
+    Some((
+        hour as u32 * 3600 + minute as u32 * 60 + second as u32,
+        rest,
+    ))
 }
 
 fn digits_len(s: &[u8]) -> usize

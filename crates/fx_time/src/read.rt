@@ -1,5 +1,6 @@
 ghost use Rattle.std.specs.Prelude.{◌≡◌, ◌↔◌, ◌<◌, ◌+ℤ◌, ◌-ℤ◌, ◌*ℤ◌, ◌*◌, ℕ, ℤ, pos, Some, IfSome, FitsSigned, option_map};
 ghost use Rattle.std.specs.Int.{w64};
+ghost use Rattle.jiff_core.specs.Calendar.{IsWithin};
 ghost use Rattle.jiff_core.specs.Sign.{signed};
 ghost use Rattle.fx_time.specs.Calendar.{Date, date_after};
 ghost use Rattle.fx_time.specs.Front.{moment_front};
@@ -26,7 +27,17 @@ pub fn read_time(text: &[u8]) -> Option<i64>
 {
     let moment = read_moment(text)?;
     let days = days_of(moment.year, moment.month, moment.day)?;
-    instant_at(days, moment.nanos, moment.behind, moment.minutes)
+    let instant = instant_at(days, moment.nanos, moment.behind, moment.minutes);
+    in_64_bits(instant)
+}
+
+fn in_64_bits(instant: i128) -> Option<i64>
+    ensures { (t : ℤ) → (FitsSigned w64 t × (t ≡ instant)) ↔ (result ≡ Some t) }
+{
+    match i64::try_from(instant) {
+        Ok(t) => Some(t),
+        Err(_) => None,
+    }
 }
 
 /// The whole text, as a date or as a date with a clock's time and zone.
@@ -80,19 +91,22 @@ fn days_of(year: u16, month: u8, day: u8) -> Option<u32>
     Some((date.to_unix_epoch_day() + 719_528) as u32)
 }
 
-/// The instant of a clock that is so many minutes ahead of UTC, or behind it, if it lies in 64
-/// bits.
-fn instant_at(days: u32, nanos: u64, behind: bool, minutes: u16) -> Option<i64>
+/// The instant of a clock that is so many minutes ahead of UTC, or behind it.
+fn instant_at(days: u32, nanos: u64, behind: bool, minutes: u16) -> i128
     requires days_in { days < 3_652_425 }
     requires nanos_in { nanos < 86_400_000_000_000 }
     requires minutes_in { minutes < 1_440 }
-    ensures { (t : ℤ) → (FitsSigned w64 t × (t ≡ instant days nanos -ℤ signed behind (minutes * 60_000_000_000))) ↔ (result ≡ Some t) }
+    ensures { result ≡ instant days nanos -ℤ signed behind (minutes * 60_000_000_000) }
 {
-    let clock = (days as i128 - 719_528) * 86_400_000_000_000 + nanos as i128;
-    let offset = minutes as i128 * 60_000_000_000;
-    let utc = if behind { clock + offset } else { clock - offset };
-    let Ok(t) = i64::try_from(utc) else {
-        return None;
-    };
-    Some(t)
+    (days as i128 - 719_528) * 86_400_000_000_000 + nanos as i128 - ahead(behind, minutes)
+}
+
+/// The nanoseconds by which a clock is ahead of UTC; fewer than 0 where it is behind.
+fn ahead(behind: bool, minutes: u16) -> i128
+    requires { minutes < 1_440 }
+    ensures value { result ≡ signed behind (minutes * 60_000_000_000) }
+    ensures bound { IsWithin 86_400_000_000_000 result }
+{
+    let nanos = minutes as i128 * 60_000_000_000;
+    if behind { -nanos } else { nanos }
 }
