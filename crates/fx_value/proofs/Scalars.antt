@@ -5,7 +5,7 @@ use Rattle.std.specs.declared.cmp.Ordering.{Ordering}
 use Rattle.std.specs.declared.cmp.Ordering.TheVariants.{Less, Equal, Greater}
 use Rattle.std.specs.Ordering.{nat_cmp, int_cmp, bool_cmp, on, then_cmp, ordering_then}
 use Rattle.std.specs.Cmp.{IsTotalOrder, bool_cmp_total, nat_cmp_total, int_cmp_total, on_total, then_total}
-use Rattle.std.specs.Cmp.Lexicographic.{slice_cmp, nat_list_cmp_total}
+use Rattle.std.specs.Cmp.Lexicographic.{nat_list_cmp_total}
 use Rattle.std.specs.FinMap.{IsAntisymmetric, nat_cmp-IsAntisymmetric, int_cmp-IsAntisymmetric, slice_cmp-IsAntisymmetric}
 use Rattle.fx_base.specs.Text.{text_cmp}
 use Rattle.fx_value.specs.Scalar.{rank, scalar_cmp}
@@ -73,7 +73,7 @@ scalar_cmp_total =
     let same : ◌≡◌ {A = Scalar → Scalar → Ordering} by_keys scalar_cmp = λ i a b. sym (by_keys_is a b) i in
     subst IsTotalOrder same by_keys_total
 
-bool_same : IsAntisymmetric bool_cmp
+pub bool_same : IsAntisymmetric bool_cmp
 bool_same true true e = refl
 bool_same false false e = refl
 bool_same true false e = cc
