@@ -1,1 +1,4 @@
+pub mod Place
+pub mod Row
 pub mod Scalar
+pub mod Slots

@@ -1,6 +1,15 @@
 //! Kinds, scalars with their order, and rows: finite maps from labels to scalars.
 #![tactic(auto)]
 
+mod head;
+mod row;
 mod scalar;
+mod shape;
+mod slot;
+mod source;
 
+pub use head::Head;
+pub use row::Row;
 pub use scalar::{Kind, Scalar, scalar_order};
+pub use shape::Shape;
+pub use source::Source;

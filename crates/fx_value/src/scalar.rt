@@ -1,10 +1,9 @@
 ghost use Rattle.std.specs.Prelude.{◌≡◌, IfOk};
 ghost use Rattle.fx_value.specs.Scalar.{scalar_cmp, kind_of};
 
+use fx_base::{Memory, Text};
 use std::alloc::Global;
 use std::cmp::Ordering;
-
-use fx_base::{Memory, Text};
 
 /// The kinds of column values, in the order in which scalars of different kinds compare.
 #[derive(Clone, Copy, Debug, PartialEq, Eq, PartialOrd, Ord)]

@@ -1,0 +1,4 @@
+pub mod Facts
+pub mod Heads
+pub mod Place
+pub mod Rows

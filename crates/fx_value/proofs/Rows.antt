@@ -1,0 +1,89 @@
+-- What a row of a head answers: a map over the values of the head's map.
+use Rattle.std.proofs.Common.{◌≡◌, ℕ, Bool, true, false, T, List, [], ◌∷◌, map, refl, sym, ap, subst, ◌∙◌}
+use Rattle.std.specs.Prelude.{◌&&◌, cond, Option, Some}
+use Rattle.std.specs.Option.{option_map}
+use Rattle.std.specs.Ordering.{is_lt, eq_by_cmp}
+use Rattle.std.specs.Cmp.Lexicographic.{nat_list_cmp_total}
+use Rattle.std.specs.FinMap as fin
+use Rattle.std.specs.FinMap.{FinMap, IsAntisymmetric}
+use Rattle.std.specs.FinMap.Entries.{find, is_sorted, below_all}
+use Rattle.fx_base.specs.Text.{text_cmp}
+use Rattle.fx_value.specs.Row.{value_at, filled, row_of}
+use Rattle.fx_value.specs.declared.scalar.Scalar.{Scalar}
+use Rattle.fx_value.specs.declared.source.Source.{Source}
+
+-- texts that tie are the same
+pub text_same : IsAntisymmetric text_cmp
+text_same = fin.slice_cmp-IsAntisymmetric fin.nat_cmp-IsAntisymmetric
+
+module _ (a b : Scalar) where
+  below-filled : (x : List ℕ) (es : List (List ℕ × Source)) → below_all text_cmp x (filled a b es) ≡ below_all text_cmp x es
+  below-filled x [] = refl
+  below-filled x (e ∷ es) = ap (λ t. is_lt (text_cmp x e.0) && t) (below-filled x es)
+
+  sorted-filled : (es : List (List ℕ × Source)) → is_sorted text_cmp (filled a b es) ≡ is_sorted text_cmp es
+  sorted-filled [] = refl
+  sorted-filled (e ∷ es) = λ i. below-filled e.0 es i && sorted-filled es i
+
+  find-filled : (q : List ℕ) (es : List (List ℕ × Source)) → find text_cmp q (filled a b es) ≡ option_map (value_at a b) (find text_cmp q es)
+  find-filled q [] = refl
+  find-filled q (e ∷ es) =
+      elim (eq_by_cmp text_cmp q e.0) as (λ t. cond t (Some (value_at a b e.1)) (find text_cmp q (filled a b es)) ≡ option_map (value_at a b) (cond t (Some e.1) (find text_cmp q es))) [
+        | true ↦ refl
+        | false ↦ find-filled q es
+      ]
+
+  keys-filled : (es : List (List ℕ × Source)) → map (λ e. e.0) (filled a b es) ≡ map (λ e. e.0) es
+  keys-filled [] = refl
+  keys-filled (e ∷ es) = ap (λ ks. e.0 ∷ ks) (keys-filled es)
+
+  rising : (h : FinMap text_cmp Source) → T (is_sorted text_cmp (filled a b (fin.entries h)))
+  rising h = subst T (sym (sorted-filled (fin.entries h))) (fin.entries_sorted h)
+
+  pub entries-row_of : (h : FinMap text_cmp Source) → fin.entries (row_of h a b) ≡ filled a b (fin.entries h)
+  unfolding row_of
+  entries-row_of h = fin.entries-from_sorted text_cmp _ (rising h)
+
+  -- the labels of a row are those of its head
+  pub keys-row_of : (h : FinMap text_cmp Source) → fin.keys (row_of h a b) ≡ fin.keys h
+  keys-row_of h = ap (map (λ e. e.0)) (entries-row_of h) ∙ keys-filled (fin.entries h)
+
+  -- the value at a label is that of its source
+  pub get-row_of : (h : FinMap text_cmp Source) (q : List ℕ) → fin.get (row_of h a b) q ≡ option_map (value_at a b) (fin.get h q)
+  get-row_of h q =
+      fin.get-entries _ q ∙ ap (find text_cmp q) (entries-row_of h) ∙ find-filled q (fin.entries h) ∙ ap (option_map (value_at a b)) (sym (fin.get-entries h q))
+
+  map_chosen : (t : Bool) (s : Source) (o : Option Source) → option_map (value_at a b) (cond t (Some s) o) ≡ cond t (Some (value_at a b s)) (option_map (value_at a b) o)
+  map_chosen true s o = refl
+  map_chosen false s o = refl
+
+  -- a head with one more label makes a row with one more value
+  pub row_of-insert : (h : FinMap text_cmp Source) (k : List ℕ) (s : Source) → row_of (fin.insert h k s) a b ≡ fin.insert (row_of h a b) k (value_at a b s)
+  row_of-insert h k s =
+      fin.same_map nat_list_cmp_total text_same _ _ (λ q.
+      get-row_of (fin.insert h k s) q
+      ∙ ap (option_map (value_at a b)) (fin.get-insert nat_list_cmp_total h k s q)
+      ∙ map_chosen (eq_by_cmp text_cmp q k) s (fin.get h q)
+      ∙ ap (cond (eq_by_cmp text_cmp q k) (Some (value_at a b s))) (sym (get-row_of h q))
+      ∙ sym (fin.get-insert nat_list_cmp_total (row_of h a b) k (value_at a b s) q))
+
+  -- the head without labels makes the row without values
+  pub row_of-empty : row_of fin.empty a b ≡ fin.empty
+  row_of-empty =
+      fin.same_map nat_list_cmp_total text_same _ _ (λ q.
+      get-row_of fin.empty q ∙ ap (option_map (value_at a b)) (fin.get-empty text_cmp q) ∙ sym (fin.get-empty text_cmp q))
+
+  -- what the head answers at a label is where the row's value is
+  pub row_answers : (h : FinMap text_cmp Source) (m : FinMap text_cmp Scalar) (q : List ℕ) (o : Option Source) → row_of h a b ≡ m
+      → o ≡ fin.get h q → option_map (value_at a b) o ≡ fin.get m q
+  row_answers h m q o view is = ap (option_map (value_at a b)) is ∙ sym (get-row_of h q) ∙ ap (λ n. fin.get n q) view
+
+  -- to give a label a source in the head is to give it that source's value in the row
+  pub row_with : (h g : FinMap text_cmp Source) (m : FinMap text_cmp Scalar) (k : List ℕ) (s : Source) → row_of h a b ≡ m
+      → g ≡ fin.insert h k s → row_of g a b ≡ fin.insert m k (value_at a b s)
+  row_with h g m k s view is =
+      ap (λ x. row_of x a b) is ∙ row_of-insert h k s ∙ ap (λ n. fin.insert n k (value_at a b s)) view
+
+  -- the labels of a row are its head's
+  pub labels_are : (h : FinMap text_cmp Source) (m : FinMap text_cmp Scalar) → row_of h a b ≡ m → fin.keys h ≡ fin.keys m
+  labels_are h m view = sym (keys-row_of h) ∙ ap fin.keys view

@@ -1,0 +1,78 @@
+ghost use Rattle.std.specs.Prelude.{◌≡◌, ◌↔◌, IfOk, IsTrue};
+ghost use Rattle.std.specs.Option.{option_map};
+ghost use Rattle.std.specs.FinMap as map;
+
+use crate::slot::{Slot, have_same_labels, labels_in, place_of, with_source};
+use crate::source::Source;
+use fx_base::{List, Memory, Text};
+use std::alloc::Global;
+use std::marker::Model;
+
+/// The labels of the rows of a table, with the values that all of them share. Contracts see the
+/// map from labels to sources.
+#[derive(Debug, Drop)]
+pub struct Head {
+    slots: Vec<Slot>,
+}
+
+impl Model for Head {
+    ghost use Rattle.std.specs.Coded.{coded_list, coded_ℕ};
+    ghost use Rattle.std.specs.FinMap as map;
+    ghost use Rattle.fx_base.specs.Text.{text_cmp};
+    ghost use Rattle.fx_value.specs.declared.source.Source.{Source};
+    ghost use Rattle.fx_value.specs.contracts.source.Source.{the_row};
+
+    ghost Value = { map.FinMap text_cmp Source };
+
+    ghost coded = { map.code (coded_list coded_ℕ) the_row.coded };
+
+    ghost use Rattle.fx_value.specs.Slots.{entries_of, IsRising};
+
+    ghost view = { λ h. map.from_sorted (entries_of h.slots.items) };
+
+    ghost invariant = { λ h. IsRising (entries_of h.slots.items) };
+}
+
+impl Head {
+    /// The head without labels.
+    pub fn empty(alloc: Global) -> Head
+        ensures { result ≡ map.empty }
+    {
+        Head {
+            slots: Vec::new(alloc),
+        }
+    }
+
+    /// The source of a label, or None where the label isn't there.
+    pub fn get(&self, label: &Text) -> Option<&Source>
+        ensures { option_map (λ s. s.now) result ≡ map.get self.now label.now }
+    {
+        match place_of(&self.slots, label) {
+            Ok(i) => Some(&self.slots[i].source),
+            Err(_) => None,
+        }
+    }
+
+    /// The head in which this label has this source, and any other label the source that it has
+    /// here.
+    pub fn with(&self, alloc: Global, label: &Text, source: Source) -> Result<Head, Memory>
+        ensures { IfOk result (λ h. h ≡ map.insert self.now label.now source) }
+    {
+        let slots = with_source(alloc, &self.slots, label, source)?;
+        Ok(Head { slots })
+    }
+
+    /// The labels, rising by bytes.
+    pub fn labels(&self, alloc: Global) -> Result<List<Text>, Memory>
+        ensures { IfOk result (λ v. v ≡ map.keys self.now) }
+    {
+        labels_in(alloc, &self.slots)
+    }
+
+    /// Whether the heads have the same labels.
+    pub fn same_labels(&self, other: &Head) -> bool
+        ensures { IsTrue result ↔ (map.keys self.now ≡ map.keys other.now) }
+    {
+        have_same_labels(&self.slots, &other.slots)
+    }
+}

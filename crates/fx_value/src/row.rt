@@ -1,0 +1,111 @@
+ghost use Rattle.std.specs.Prelude.{◌≡◌, ◌↔◌, IfOk, OnOk, OnErr, IsTrue};
+ghost use Rattle.std.specs.Option.{option_map};
+ghost use Rattle.std.specs.FinMap as map;
+ghost use Rattle.fx_value.specs.Row.{row_of};
+
+use crate::head::Head;
+use crate::scalar::Scalar;
+use crate::shape::Shape;
+use crate::source::Source;
+use fx_base::{List, Memory, Text};
+use std::alloc::Global;
+use std::marker::Model;
+use std::rc::Rc;
+
+/// A finite map from labels to scalars. Rows of one shape share their labels and the values that
+/// all of them have.
+#[derive(Debug, Drop)]
+pub struct Row {
+    head: Rc<Head>,
+    first: Scalar,
+    second: Scalar,
+}
+
+impl Model for Row {
+    ghost use Rattle.std.specs.Coded.{coded_list, coded_ℕ};
+    ghost use Rattle.std.specs.FinMap as map;
+    ghost use Rattle.fx_base.specs.Text.{text_cmp};
+    ghost use Rattle.fx_value.specs.declared.scalar.Scalar.{Scalar};
+    ghost use Rattle.fx_value.specs.contracts.scalar.Scalar.{the_row};
+    ghost use Rattle.fx_value.specs.Row.{row_of};
+
+    ghost Value = { map.FinMap text_cmp Scalar };
+
+    ghost coded = { map.code (coded_list coded_ℕ) the_row.coded };
+
+    ghost view = { λ r. row_of r.head.value r.first r.second };
+}
+
+impl Row {
+    /// The row without labels.
+    pub fn empty(alloc: Global) -> Result<Row, Memory>
+        ensures { IfOk result (λ r. r ≡ map.empty) }
+    {
+        Ok(Row {
+            head: Rc::new(alloc, Head::empty(alloc))?,
+            first: Scalar::Null,
+            second: Scalar::Null,
+        })
+    }
+
+    /// The row of this shape with these values of its own.
+    pub fn of(shape: &Shape, first: Scalar, second: Scalar) -> Result<Row, Memory>
+        ensures { IfOk result (λ r. r ≡ row_of shape.now first second) }
+    {
+        Ok(Row {
+            head: shape.head.clone()?,
+            first,
+            second,
+        })
+    }
+
+    /// The value of a label, or None where the row doesn't have it.
+    pub fn get(&self, label: &Text) -> Option<&Scalar>
+        ensures { option_map (λ v. v.now) result ≡ map.get self.now label.now }
+    {
+        match self.head.as_ref().get(label) {
+            None => None,
+            Some(Source::Fixed(value)) => Some(value),
+            Some(Source::First) => Some(&self.first),
+            Some(Source::Second) => Some(&self.second),
+        }
+    }
+
+    /// Another row that is the same map. It allocates nothing.
+    pub fn copy(&self) -> Result<Row, Memory>
+        ensures { IfOk result (λ r. r ≡ self.now) }
+    {
+        Ok(Row {
+            head: self.head.clone()?,
+            first: self.first.copy()?,
+            second: self.second.copy()?,
+        })
+    }
+
+    /// Gives the label this value; a refusal leaves the row as it was.
+    pub fn set(&mut self, alloc: Global, label: Text, value: Scalar) -> Result<(), Memory>
+        ensures ok { OnOk result (self.new ≡ map.insert self.old label value) }
+        ensures err { OnErr result (self.new ≡ self.old) }
+    {
+        let head = self
+            .head
+            .as_ref()
+            .with(alloc, &label, Source::Fixed(value))?;
+        self.head = Rc::new(alloc, head)?;
+        Ok(())
+    }
+
+    /// The labels, rising by bytes.
+    pub fn labels(&self, alloc: Global) -> Result<List<Text>, Memory>
+        ensures { IfOk result (λ v. v ≡ map.keys self.now) }
+    {
+        self.head.as_ref().labels(alloc)
+    }
+
+    /// Whether the rows have the same labels.
+    pub fn same_labels(&self, other: &Row) -> bool
+        ensures { IsTrue result ↔ (map.keys self.now ≡ map.keys other.now) }
+    {
+        self.head.as_ref().same_labels(other.head.as_ref())
+    }
+}

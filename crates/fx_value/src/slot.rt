@@ -1,0 +1,107 @@
+ghost use Rattle.std.specs.Prelude.{◌≡◌, IfOk, MatchResult};
+ghost use Rattle.std.specs.Cmp.Lexicographic.{pointwise};
+ghost use Rattle.fx_base.specs.Text.{same_text};
+ghost use Rattle.std.specs.FinMap.Entries.{put};
+ghost use Rattle.fx_base.specs.Text.{text_cmp};
+ghost use Rattle.fx_value.specs.Place.{StandsAt, BelongsAt};
+ghost use Rattle.fx_value.specs.Slots.{entries_of, labels_of};
+
+use crate::source::Source;
+use fx_base::{List, Memory, Text};
+use std::alloc::Global;
+use std::cmp::Ordering;
+
+/// A label with the source of its value.
+#[derive(Debug, Drop)]
+pub struct Slot {
+    pub label: Text,
+    pub source: Source,
+}
+
+impl Slot {
+    pub fn copy(&self) -> Result<Slot, Memory>
+        ensures { IfOk result (λ s. s ≡ self.now) }
+    {
+        Ok(Slot {
+            label: self.label.copy()?,
+            source: self.source.copy()?,
+        })
+    }
+
+    fn refill(&mut self, source: Source)
+        ensures { self.new ≡ record self.old { source = source } }
+    {
+        self.source = source;
+    }
+}
+
+/// Where the label stands among slots whose labels rise, or else where it belongs.
+pub fn place_of(slots: &Vec<Slot>, label: &Text) -> Result<usize, usize>
+    ensures { MatchResult result (StandsAt text_cmp label.now (entries_of slots.now.items)) (BelongsAt text_cmp label.now (entries_of slots.now.items)) }
+{
+    for (i, slot) in slots.iter().enumerate() {
+        match label.cmp(&slot.label) {
+            Ordering::Less => return Err(i),
+            Ordering::Equal => return Ok(i),
+            Ordering::Greater => {}
+        }
+    }
+    Err(slots.len())
+}
+
+/// The same slots, with room for one more. Their texts are shared.
+fn copy_of(alloc: Global, slots: &Vec<Slot>) -> Result<Vec<Slot>, Memory>
+    ensures { IfOk result (λ v. v.items ≡ slots.now.items) }
+{
+    let mut copies = Vec::with_capacity(alloc, slots.len() + 1)?;
+    for slot in slots {
+        copies.push(slot.copy()?)?;
+    }
+    Ok(copies)
+}
+
+/// Copies of the slots, with this source at this label.
+pub fn with_source(
+    alloc: Global,
+    slots: &Vec<Slot>,
+    label: &Text,
+    source: Source,
+) -> Result<Vec<Slot>, Memory>
+    ensures { IfOk result (λ v. entries_of v.items ≡ put text_cmp label.now source (entries_of slots.now.items)) }
+{
+    let mut copies = copy_of(alloc, slots)?;
+    match place_of(&copies, label) {
+        Ok(i) => copies[i].refill(source),
+        Err(i) => {
+            let label = label.copy()?;
+            copies.insert(i, Slot { label, source })?;
+        }
+    }
+    Ok(copies)
+}
+
+/// The labels of the slots, in their order.
+pub fn labels_in(alloc: Global, slots: &Vec<Slot>) -> Result<List<Text>, Memory>
+    ensures { IfOk result (λ v. v ≡ labels_of slots.now.items) }
+{
+    let mut labels = Vec::with_capacity(alloc, slots.len())?;
+    for slot in slots {
+        labels.push(slot.label.copy()?)?;
+    }
+    Ok(List::of(labels))
+}
+
+/// Whether the slots have the same labels in the same order.
+pub fn have_same_labels(slots: &Vec<Slot>, others: &Vec<Slot>) -> bool
+    ensures { result ≡ pointwise same_text (labels_of slots.now.items) (labels_of others.now.items) }
+{
+    if slots.len() != others.len() {
+        return false;
+    }
+    for (i, slot) in slots.iter().enumerate() {
+        if slot.label != others[i].label {
+            return false;
+        }
+    }
+    true
+}

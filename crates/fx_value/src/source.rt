@@ -1,0 +1,27 @@
+ghost use Rattle.std.specs.Prelude.{◌≡◌, IfOk};
+
+use crate::scalar::Scalar;
+use fx_base::Memory;
+
+/// Where rows that share their labels find the value of a label.
+#[derive(Debug, Drop)]
+pub enum Source {
+    /// All rows have this value.
+    Fixed(Scalar),
+    /// Each row has a value of its own: its first.
+    First,
+    /// Each row has a value of its own: its second.
+    Second,
+}
+
+impl Source {
+    pub fn copy(&self) -> Result<Source, Memory>
+        ensures { IfOk result (λ s. s ≡ self.now) }
+    {
+        match self {
+            Source::Fixed(value) => Ok(Source::Fixed(value.copy()?)),
+            Source::First => Ok(Source::First),
+            Source::Second => Ok(Source::Second),
+        }
+    }
+}
