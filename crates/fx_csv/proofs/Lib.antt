@@ -1,2 +1,3 @@
+pub mod ColumnKinds
 pub mod Inserted
 pub mod RecordBytes

@@ -4,4 +4,5 @@ pub mod Lines
 pub mod Printed
 pub mod Records
 pub mod Runs
+pub mod Shapes
 pub mod Writers

@@ -14,7 +14,7 @@
 --
 -- A pinned label's value stands in each row of its table. A label that a row lacks is a null there. Table numbers go on
 -- through all blocks of the yield.
-use Rattle.std.specs.Prelude.{ℕ, ◌+◌, Bool, true, ◌&&◌, List, [], ◌∷◌, ◌++◌, length, map, Option, codes, decimal, unwrap_or, IsTrue}
+use Rattle.std.specs.Prelude.{ℕ, ◌+◌, Bool, true, ◌&&◌, List, [], ◌∷◌, ◌++◌, length, map, Option, None, Some, codes, decimal, if◌then◌else◌, unwrap_or, IsTrue}
 use Rattle.std.specs.Option.{option_map, option_or}
 use Rattle.std.specs.List.{filter_map, find, flat_map, fold, list_all, list_any, slice_get}
 use Rattle.std.specs.BTreeSet.{insert_key}
@@ -25,6 +25,7 @@ use Rattle.fx_value.specs.declared.scalar.Kind.{Kind}
 use Rattle.fx_value.specs.declared.scalar.Scalar.{Scalar}
 use Rattle.fx_value.specs.declared.scalar.Scalar.TheVariants as scalar
 use Rattle.fx_value.specs.Scalar.{kind_of}
+use Rattle.fx_data.specs.declared.KeyEntry.{KeyEntry}
 use Rattle.fx_data.specs.declared.Table.{Table}
 use Rattle.fx_csv.specs.Cells.{bool_text, datatype, is_one_kind, scalar_text}
 use Rattle.fx_csv.specs.Columns.{column_cmp}
@@ -39,12 +40,13 @@ abbrev pub columns : Table → List (List ℕ)
 columns t = fold (insert_key column_cmp) [] (key_labels t ++ flat_map map.keys t.rows)
 
 -- the value of a label that the key pins
-abbrev pub pinned_value : Table → List ℕ → Option Scalar
-pinned_value t label = option_map (λ e. e.value) (find (λ e. e.pinned && same_text e.label label) t.key.entries)
+abbrev pub pinned_value : List KeyEntry → List ℕ → Option Scalar
+pinned_value [] label = None
+pinned_value (e ∷ rest) label = if e.pinned && same_text e.label label then Some e.value else pinned_value rest label
 
 -- what stands in a column of a row
 abbrev pub value_at : Table → List ℕ → map.FinMap text_cmp Scalar → Scalar
-value_at t label row = unwrap_or (option_or (pinned_value t label) (map.get row label)) scalar.Null
+value_at t label row = unwrap_or (option_or (pinned_value t.key.entries label) (map.get row label)) scalar.Null
 
 -- the kinds of the values of a column that aren't null, in one table and over a run
 abbrev pub kinds_in : List ℕ → Table → List Kind
@@ -70,7 +72,7 @@ is_block (t ∷ rest) =
     list_all (same_shape t) rest && list_all (λ label. is_one_kind (kinds label (t ∷ rest))) (columns t)
 
 abbrev pub is_key_label : Table → List ℕ → Bool
-is_key_label t label = list_any (same_text label) (key_labels t)
+is_key_label t label = list_any (λ e. same_text e.label label) t.key.entries
 
 -- the four records that stand before the rows of a block
 abbrev pub head_records : List ℕ → List Table → List (List (List ℕ))

@@ -1,56 +1,50 @@
-//! The columns of a table.
-ghost use Rattle.std.specs.Prelude.{◌≡◌, [], ◌++◌, map, IfOk, OnOk};
-ghost use Rattle.std.specs.FinMap as map;
-ghost use Rattle.std.specs.List.{flat_map, fold};
-ghost use Rattle.std.specs.BTreeSet.{insert_key};
-ghost use Rattle.fx_csv.specs.Columns.{column_cmp};
-ghost use Rattle.fx_csv.specs.Printed.{columns, key_labels};
+//! The columns of a block.
+ghost use Rattle.std.specs.Prelude.{◌≡◌, [], ◌∷◌, IfOk};
+ghost use Rattle.fx_csv.specs.Printed.{is_key_label};
+ghost use Rattle.fx_csv.specs.Shapes.{columns_over};
 
 use std::alloc::Global;
-use std::collections::BTreeSet;
 
-use crate::name::ColumnName;
-use fx_base::Memory;
-use fx_data::{KeyEntry, Table};
-use fx_value::Row;
+use crate::kind::kind_in;
+use crate::names::column_names;
+use fx_base::{Memory, Text};
+use fx_data::Table;
+use fx_value::Kind;
 
-/// The labels of a table's key and rows, each once.
-fn column_names(alloc: Global, table: &Table) -> Result<BTreeSet<ColumnName>, Memory>
-    ensures { IfOk result (λ s. s.keys ≡ columns table.now) }
-{
-    let mut names = key_names(alloc, table.key.entries.as_slice())?;
-    add_rows(alloc, &mut names, table.rows.as_slice())?;
-    Ok(names)
+/// A column: its label, whether that is a key label, and the kind of the values that aren't null.
+#[derive(Drop)]
+pub(crate) struct Column {
+    pub(crate) label: Text,
+    pub(crate) grouped: bool,
+    pub(crate) kind: Option<Kind>,
 }
 
-fn key_names(alloc: Global, entries: &[KeyEntry]) -> Result<BTreeSet<ColumnName>, Memory>
-    ensures { IfOk result (λ s. s.keys ≡ fold (insert_key column_cmp) [] (map (λ e. e.label) entries.now)) }
+/// The columns of a table that stands alone.
+pub(crate) fn columns_of(alloc: Global, table: &Table) -> Result<Vec<Column>, Memory>
+    ensures { IfOk result (λ v. v.items ≡ columns_over (table.now ∷ [])) }
 {
-    let mut names = BTreeSet::new(alloc);
-    for entry in entries {
-        names.insert(ColumnName::of(entry.label.copy()?))?;
+    let names = column_names(alloc, table)?;
+    let mut columns = Vec::with_capacity(alloc, names.len())?;
+    for name in names.iter() {
+        let label = name.label()?;
+        let grouped = is_key_label(table, &label);
+        let kind = kind_in(table, &label);
+        columns.push(Column {
+            label,
+            grouped,
+            kind,
+        })?;
     }
-    Ok(names)
+    Ok(columns)
 }
 
-/// Adds the labels of the rows. A row with the labels of the row before it adds none.
-fn add_rows(alloc: Global, names: &mut BTreeSet<ColumnName>, rows: &[Row]) -> Result<(), Memory>
-    ensures { OnOk result (names.new.keys ≡ fold (insert_key column_cmp) names.old.keys (flat_map map.keys rows.now)) }
+fn is_key_label(table: &Table, label: &Text) -> bool
+    ensures { result ≡ is_key_label table.now label.now }
 {
-    for i in 0..rows.len() {
-        if i > 0 && rows[i].same_labels(&rows[i - 1]) {
-            continue;
-        }
-        add_row(alloc, names, &rows[i])?;
-    }
-    Ok(())
-}
-
-fn add_row(alloc: Global, names: &mut BTreeSet<ColumnName>, row: &Row) -> Result<(), Memory>
-    ensures { OnOk result (names.new.keys ≡ fold (insert_key column_cmp) names.old.keys (map.keys row.now)) }
-{
-    for label in row.labels(alloc)?.as_slice() {
-        names.insert(ColumnName::of(label.copy()?))?;
-    }
-    Ok(())
+    table
+        .key
+        .entries
+        .as_slice()
+        .iter()
+        .any(|entry| entry.label == *label)
 }

@@ -2,7 +2,9 @@
 #![tactic(auto)]
 
 mod column;
+mod kind;
 mod line;
 mod name;
+mod names;
 mod text;
 mod writer;

@@ -3,7 +3,7 @@ use Rattle.std.proofs.Common.{◌≡◌, ◌∙◌, ◌<◌, sym, length, arith}
 use Rattle.std.specs.FinMap as map
 use Rattle.fx_csv.specs.Columns.{column_cmp, column_cmp_total}
 use Rattle.fx_csv.proofs.Inserted.{inserted_same}
-use Rattle.fx_csv.proofs.column.add_rows.Goals as goal
+use Rattle.fx_csv.proofs.names.add_rows.Goals as goal
 
 pub loop-i-preserved-then-same_labels : goal.loop-i-preserved-then-same_labels
 loop-i-preserved-then-same_labels c =
