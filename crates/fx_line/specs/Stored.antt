@@ -1,5 +1,5 @@
 -- Stored points: what the loaded points of the buckets are, apart from how a store keeps them.
-use Rattle.std.specs.Prelude.{◌≡◌, ℕ, ℤ, Bool, false, ◌&&◌, not, List, [], ◌∷◌, map, filter, fold, Option, None, Some, nat_eq, All, FitsSigned}
+use Rattle.std.specs.Prelude.{◌≡◌, ℕ, ℤ, Bool, false, ◌&&◌, not, List, [], ◌∷◌, map, filter, fold, Option, None, nat_eq, All, FitsSigned}
 use Rattle.std.specs.Int.{w64}
 use Rattle.std.specs.Ordering.{int_cmp}
 use Rattle.std.specs.List.{starts_with}
@@ -85,4 +85,3 @@ series_of stored id =
 -- all series of stored points, in the order in which their first points were put
 abbrev pub grouped : List StoredPoint → List Series
 grouped stored = map (series_of stored) (first_seen (map id_of stored))
-

@@ -1,6 +1,8 @@
 //! One line of line protocol to its points, and what stored points are.
 #![tactic(auto)]
 
+mod line;
 mod point;
 
+pub use line::{LineError, LineFault, LineMode, LineRead};
 pub use point::{Point, SeriesKey, Tag};

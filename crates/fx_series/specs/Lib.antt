@@ -1,0 +1,4 @@
+pub mod Held
+pub mod Put
+pub mod Read
+pub mod Store

@@ -1,0 +1,27 @@
+-- How a put answers.
+use Rattle.std.specs.Prelude.{◌≡◌, ◌≢◌, ℕ, true, false, List, Some, Result, Ok, Err, All, slice_get}
+use Rattle.fx_value.specs.declared.scalar.Kind.{Kind}
+use Rattle.fx_value.specs.Scalar.{kind_of}
+use Rattle.fx_line.specs.Stored.{StoredPoint, id_of, points_of, kind_of_points, series_of, grouped}
+use Rattle.fx_series.specs.declared.fault.PutFault.{PutFault}
+use Rattle.fx_series.specs.declared.fault.PutFault.TheVariants as fault
+use Rattle.fx_series.specs.Store.{is_added}
+
+-- each earlier point of the point's series has the point's kind
+abbrev pub Agrees : List StoredPoint → StoredPoint → Type 0
+Agrees stored s = All (λ p. kind_of p.value ≡ kind_of s.point.value) (points_of (id_of s) stored)
+
+-- the point's series has this number, an earlier point of it has the kind `old`, and the point has another kind, `new`
+pub record Conflicts (stored : List StoredPoint) (s : StoredPoint) (number : ℕ) (old new : Kind) : Type 0 where
+  pub series : slice_get (grouped stored) number ≡ Some (series_of stored (id_of s))
+  pub earlier : kind_of_points (points_of (id_of s) stored) ≡ Some old
+  pub later : kind_of s.point.value ≡ Some new
+  pub differ : old ≢ new
+
+-- the answers of a put of a point, by the buckets and the points that were stored before: but for want of memory, the
+-- buckets and the points alone tell which of the others comes
+abbrev pub Answers : List (List ℕ) → List StoredPoint → StoredPoint → Result (Unit {0}) PutFault → Type 0
+Answers buckets stored s (Ok _) = (is_added buckets s.bucket ≡ true) × Agrees stored s
+Answers buckets stored s (Err fault.NoBucket) = is_added buckets s.bucket ≡ false
+Answers buckets stored s (Err (fault.KindConflict number old new)) = (is_added buckets s.bucket ≡ true) × Conflicts stored s number old new
+Answers buckets stored s (Err fault.Memory) = is_added buckets s.bucket ≡ true

@@ -1,0 +1,27 @@
+-- What is read of a store.
+use Rattle.std.specs.Prelude.{ℕ, ℤ, Bool, true, false, ◌&&◌, List, Option, Some, map, filter, int_le}
+use Rattle.fx_base.specs.Text.{same_text}
+use Rattle.fx_value.specs.declared.scalar.Kind.{Kind}
+use Rattle.fx_value.specs.declared.scalar.Kind.TheVariants as kind
+use Rattle.fx_value.specs.declared.scalar.Scalar.{Scalar}
+use Rattle.fx_line.specs.Stored.{Series}
+use Rattle.fx_series.specs.declared.series.TimeValue.{TimeValue}
+
+abbrev pub same_kind : Option Kind → Kind → Bool
+same_kind (Some kind.Bool) kind.Bool = true
+same_kind (Some kind.Int) kind.Int = true
+same_kind (Some kind.Text) kind.Text = true
+same_kind (Some kind.Time) kind.Time = true
+same_kind o k = false
+
+-- whether a series is in a bucket and of a kind
+abbrev pub is_in : List ℕ → Kind → Series → Bool
+is_in bucket kind s = same_text bucket s.id.bucket && same_kind s.kind kind
+
+-- the values with first ≤ time ≤ last
+abbrev pub between : ℤ → ℤ → List (ℤ × Scalar) → List (ℤ × Scalar)
+between first last values = filter (λ v. int_le first v.0 && int_le v.0 last) values
+
+-- times and values as pairs
+abbrev pub pairs : List TimeValue → List (ℤ × Scalar)
+pairs values = map (λ v. (v.time, v.value)) values

@@ -1,0 +1,131 @@
+ghost use Rattle.std.specs.Prelude.{◌≡◌, ℕ, ◌+◌, ◌^◌, ◌<◌, ◌≤◌, ◌-◌, List, [], ◌∷◌, ◌++◌, length, map, filter, Some, All, slice_get, option_map, IfOk, OnOk, OnErr};
+ghost use Rattle.std.specs.Ordering.{nat_cmp};
+ghost use Rattle.std.specs.List.Sorted.{IsStrictlySortedBy};
+ghost use Rattle.fx_line.specs.Stored.{StoredPoint, Series, IsLawful};
+ghost use Rattle.fx_series.specs.Store.{StandsFor, is_added, with_bucket};
+ghost use Rattle.fx_series.specs.Put.{Answers};
+ghost use Rattle.fx_series.specs.Read.{is_in, between, pairs};
+
+use crate::fault::PutFault;
+use crate::series::{Held, StoredKey, TimeValue};
+use fx_base::{List, Memory, Steps, Text};
+use fx_line::{Point, SeriesKey};
+use fx_value::Kind;
+use indexmap::{IndexMap, IndexSet};
+use std::alloc::Global;
+use std::marker::Model;
+use std::sync::ledger::Ledger;
+
+/// Buckets and the points that were put into them.
+#[derive(Drop)]
+pub struct Store {
+    buckets: IndexSet<Text>,
+    series: IndexMap<StoredKey, Held>,
+    puts: u64,
+}
+
+impl Model for Store {
+    ghost use Rattle.std.specs.Prelude.{◌≤◌, ◌<◌, length, map};
+    ghost use Rattle.fx_series.specs.Store.{Kept};
+    ghost use Rattle.fx_series.specs.Held.{shown};
+
+    ghost Value = { Kept };
+
+    ghost view = { λ s. record { buckets = s.buckets.keys; series = map shown s.series.entries; puts = s.puts } };
+
+    ghost invariant = { λ s. (length s.series.entries ≤ s.puts) × (s.puts < 4294967296) };
+}
+
+impl Store {
+    /// The store without buckets and points.
+    pub fn empty(alloc: Global) -> Result<Store, Memory>
+        ensures { IfOk result (λ s. StandsFor s [] []) }
+    {
+        Ok(Store {
+            buckets: IndexSet::new(alloc),
+            series: IndexMap::new(alloc),
+            puts: 0,
+        })
+    }
+
+    /// Adds a bucket at the end; one that is there stays where it is.
+    pub fn add_bucket(&mut self, name: &Text) -> Result<(), Memory>
+        requires { length self.old.buckets < 4294967295 }
+        ensures ok { (buckets : List (List ℕ)) (stored : List StoredPoint) → StandsFor self.old buckets stored → OnOk result (StandsFor self.new (with_bucket buckets name.now) stored) }
+        ensures err { OnErr result (self.new ≡ self.old) }
+    {
+        self.buckets.insert(name.copy()?)?;
+        Ok(())
+    }
+
+    /// Whether a bucket of this name was added.
+    pub fn has_bucket(&self, name: &Text) -> bool
+        ensures { result ≡ is_added self.now.buckets name.now }
+    {
+        self.buckets.contains(name)
+    }
+
+    /// The bucket at a place in the order in which they were added.
+    pub fn bucket_at(&self, place: u32) -> Option<&Text>
+        ensures { option_map (λ t. t.now) result ≡ slice_get self.now.buckets place }
+    {
+        self.buckets.get_index(place as usize)
+    }
+
+    /// How many puts were accepted.
+    pub fn points(&self) -> u64
+        ensures { result ≡ self.now.puts }
+    {
+        self.puts
+    }
+
+    /// The key of the series with a number.
+    pub fn series_key(&self, series: u32) -> Option<&SeriesKey>
+        ensures { option_map (λ k. k.now) result ≡ option_map (λ s. s.id.key) (slice_get self.now.series series) }
+    {
+        match self.series.get_index(series as usize) {
+            Some((key, _)) => Some(&key.key),
+            None => None,
+        }
+    }
+
+    /// Puts a point into a bucket. A point of the same series and time gives up its value.
+    pub fn put(&mut self, bucket: &Text, point: Point) -> Result<(), PutFault>
+        requires room { self.old.puts < 4294967295 }
+        requires lawful { IsLawful point }
+        ensures ok { (buckets : List (List ℕ)) (stored : List StoredPoint) → StandsFor self.old buckets stored → OnOk result (StandsFor self.new buckets (stored ++ record { bucket = bucket.now; point = point } ∷ [])) }
+        ensures err { OnErr result (self.new ≡ self.old) }
+        ensures answers { (buckets : List (List ℕ)) (stored : List StoredPoint) → StandsFor self.old buckets stored → Answers buckets stored (record { bucket = bucket.now; point = point }) result }
+    {
+        if !self.has_bucket(bucket) {
+            return Err(PutFault::NoBucket);
+        }
+        Err(PutFault::Memory)
+    }
+
+    /// The numbers of a bucket's series of a kind, in the order in which their first points were put.
+    pub fn series(&self, alloc: Global, bucket: &Text, kind: Kind) -> Result<List<u32>, Memory>
+        ensures found { IfOk result (λ ns. map (slice_get self.now.series) ns ≡ map Some (filter (is_in bucket.now kind) self.now.series)) }
+        ensures within { IfOk result (λ ns. All (λ n. n < length self.now.series) ns) }
+        ensures rising { IfOk result (λ ns. IsStrictlySortedBy nat_cmp ns) }
+    {
+        Err(Memory)
+    }
+
+    /// The values of a series with `first <= time <= last`, by rising time.
+    pub fn read<L: Ledger>(
+        &self,
+        alloc: Global,
+        series: u32,
+        first: i64,
+        last: i64,
+        steps: &mut Steps<L>,
+    ) -> Result<List<TimeValue>, Memory>
+        requires { series < length self.now.series }
+        ensures values { (s : Series) → slice_get self.now.series series ≡ Some s → IfOk result (λ r. pairs r ≡ between first last s.values) }
+        ensures steps { IfOk result (λ r. steps.new ≡ steps.old + length r) }
+        ensures most { (s : Series) → slice_get self.now.series series ≡ Some s → OnErr result ((steps.old ≤ steps.new) × (steps.new ≤ steps.old + length (between first last s.values))) }
+    {
+        Err(Memory)
+    }
+}
