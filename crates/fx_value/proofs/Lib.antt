@@ -2,3 +2,4 @@ pub mod Facts
 pub mod Heads
 pub mod Place
 pub mod Rows
+pub mod Scalars

@@ -10,6 +10,6 @@ mod source;
 
 pub use head::Head;
 pub use row::Row;
-pub use scalar::{Kind, Scalar, scalar_order};
+pub use scalar::{Kind, Scalar, scalar_order, scalar_order_is_total};
 pub use shape::Shape;
 pub use source::Source;

@@ -1,4 +1,6 @@
 ghost use Rattle.std.specs.Prelude.{◌≡◌, IfOk};
+ghost use Rattle.std.specs.Cmp.{IsTotalOrder};
+ghost use Rattle.std.specs.FinMap.{IsAntisymmetric};
 ghost use Rattle.fx_value.specs.Scalar.{scalar_cmp, kind_of};
 
 use fx_base::{Memory, Text};
@@ -56,4 +58,11 @@ pub fn scalar_order(a: &Scalar, b: &Scalar) -> Ordering
     ensures { result ≡ scalar_cmp a.now b.now }
 {
     a.cmp(b)
+}
+
+/// The law of the order: it is total, and only equal scalars tie.
+pub fn scalar_order_is_total()
+    ensures total { IsTotalOrder scalar_cmp }
+    ensures ties { IsAntisymmetric scalar_cmp }
+{
 }

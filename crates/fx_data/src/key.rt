@@ -1,0 +1,37 @@
+ghost use Rattle.std.specs.Prelude.{◌≡◌};
+ghost use Rattle.std.specs.Cmp.{IsTotalOrder};
+ghost use Rattle.std.specs.FinMap.{IsAntisymmetric};
+ghost use Rattle.fx_data.specs.Key.{key_cmp};
+
+use fx_base::{List, Text};
+use fx_value::Scalar;
+use std::cmp::Ordering;
+
+/// A label by which a table is grouped, with the value that its rows share. A pinned entry is no
+/// column of the rows.
+#[derive(Debug, PartialEq, Eq, PartialOrd, Ord, Drop)]
+pub struct KeyEntry {
+    pub label: Text,
+    pub value: Scalar,
+    pub pinned: bool,
+}
+
+/// What names a table: its entries, whose labels rise.
+#[derive(Debug, PartialEq, Eq, PartialOrd, Ord, Drop)]
+pub struct Key {
+    pub entries: List<KeyEntry>,
+}
+
+/// Entry by entry: the label by bytes, then the value, then an unpinned entry before a pinned one. A
+/// proper prefix comes first.
+pub fn key_order(a: &Key, b: &Key) -> Ordering
+    ensures { result ≡ key_cmp a.now b.now }
+{
+    a.cmp(b)
+}
+
+/// The law of the order: it is total, and only equal keys tie.
+pub fn key_order_is_total()
+    ensures total { IsTotalOrder key_cmp }
+    ensures ties { IsAntisymmetric key_cmp }
+{}
