@@ -1,14 +1,14 @@
 -- The kinds of the values of a column.
-use Rattle.std.proofs.Common.{◌≡◌, ◌==◌, ℕ, ◌<◌, Bool, true, false, List, [], ◌∷◌, ◌++◌, length, map, Option, None, Some, refl, ap, sym, ◌∙◌, arith}
+use Rattle.std.proofs.Common.{◌≡◌, ◌==◌, ℕ, ◌<◌, false, List, [], ◌∷◌, length, map, Option, None, Some, refl, ap, sym, ◌∙◌, arith}
 use Rattle.std.specs.Prelude.{unwrap_or}
 use Rattle.std.specs.Option.{option_or}
-use Rattle.std.specs.List.{cons_option, filter_map, slice_get}
+use Rattle.std.specs.List.{filter_map, slice_get}
 use Rattle.std.specs.FinMap as map
 use Rattle.fx_value.specs.declared.scalar.Kind.{Kind}
 use Rattle.fx_value.specs.declared.scalar.Scalar.{Scalar}
 use Rattle.fx_value.specs.declared.scalar.Scalar.TheVariants as scalar
 use Rattle.fx_value.specs.Scalar.{kind_of}
-use Rattle.fx_data.specs.declared.Table.{Table}
+use Rattle.fx_data.specs.declared.table.Table.{Table}
 use Rattle.fx_csv.specs.Printed.{kinds_in, pinned_value}
 
 none_of_null : {X : Type 0} (v : Scalar) → kind_of v ≡ None → (xs : List X) → filter_map kind_of (map (λ x. v) xs) ≡ []

@@ -5,9 +5,8 @@ use Rattle.std.specs.BTreeSet.{insert_key}
 use Rattle.std.specs.declared.cmp.Ordering.{Ordering}
 use Rattle.std.specs.declared.cmp.Ordering.TheVariants.{Less, Equal, Greater}
 use Rattle.std.specs.Ordering.{match_ordering, ordering_reverse}
-use Rattle.std.specs.Cmp.{IsTotalOrder, tied_itself, alike_right}
+use Rattle.std.specs.Cmp.{IsTotalOrder, tied_itself}
 use Rattle.std.proofs.lemmas.List.{take_more, flat_map_more}
-use Rattle.std.proofs.lemmas.List.Concat.{flat_map-append}
 use Rattle.std.proofs.lemmas.Grind.{fold-append}
 
 module _ {K : Type 0} (R : K → K → Ordering) (o : IsTotalOrder R) where
@@ -89,7 +88,7 @@ module _ {K : Type 0} (R : K → K → Ordering) (o : IsTotalOrder R) where
         let below : i - 1 < length xs = omega arith in
         let up : i - 1 + 1 ≡ i = omega arith in
         let before : fold (insert_key R) ks (flat_map f (take i xs)) ≡ fold (insert_key R) (fold (insert_key R) ks (flat_map f (take (i - 1) xs))) (f y)
-            = ap (λ n. fold (insert_key R) ks (flat_map f (take n xs))) (sym up) ∙ inserted_more ks xs (i - 1) y below was in
+        = ap (λ n. fold (insert_key R) ks (flat_map f (take n xs))) (sym up) ∙ inserted_more ks xs (i - 1) y below was in
         inserted_more ks xs i x h is
         ∙ ap (fold (insert_key R) (fold (insert_key R) ks (flat_map f (take i xs)))) same
         ∙ ap (λ l. fold (insert_key R) l (f y)) before

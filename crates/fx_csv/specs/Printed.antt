@@ -4,8 +4,9 @@
 -- from its first table, of tables that have the same columns and the same key labels, pinned or not, such that the
 -- values of each column over the run that aren't null have one kind. A yield without tables prints nothing.
 --
--- The columns of a table are its key labels and the labels of its rows, in the order of `column_cmp`. A block is these
--- records, each ended by CR LF, and then an empty line, CR LF:
+-- The columns of a table are its key labels and the labels of its rows. They stand in the order `_start`, `_stop`,
+-- `_time`, `_value`, `_field`, `_measurement`, and then the others by their bytes. A block is these records, each ended
+-- by CR LF, and then an empty line, CR LF:
 -- 1. `#datatype`, `string`, `long`, and the datatype of each column
 -- 2. `#group`, `false`, `false`, and for each column whether it is a key label
 -- 3. `#default`, the yield's name, and an empty field for `table` and for each column
@@ -15,8 +16,8 @@
 -- A pinned label's value stands in each row of its table. A label that a row lacks is a null there. Table numbers go on
 -- through all blocks of the yield.
 use Rattle.std.specs.Prelude.{ℕ, ◌+◌, Bool, true, ◌&&◌, List, [], ◌∷◌, ◌++◌, length, map, Option, None, Some, codes, decimal, if◌then◌else◌, unwrap_or, IsTrue}
-use Rattle.std.specs.Option.{option_map, option_or}
-use Rattle.std.specs.List.{filter_map, find, flat_map, fold, list_all, list_any, slice_get}
+use Rattle.std.specs.Option.{option_or}
+use Rattle.std.specs.List.{filter_map, flat_map, fold, list_all, list_any, slice_get}
 use Rattle.std.specs.BTreeSet.{insert_key}
 use Rattle.std.specs.Cmp.Lexicographic.{pointwise}
 use Rattle.std.specs.FinMap as map
@@ -25,8 +26,8 @@ use Rattle.fx_value.specs.declared.scalar.Kind.{Kind}
 use Rattle.fx_value.specs.declared.scalar.Scalar.{Scalar}
 use Rattle.fx_value.specs.declared.scalar.Scalar.TheVariants as scalar
 use Rattle.fx_value.specs.Scalar.{kind_of}
-use Rattle.fx_data.specs.declared.KeyEntry.{KeyEntry}
-use Rattle.fx_data.specs.declared.Table.{Table}
+use Rattle.fx_data.specs.declared.key.KeyEntry.{KeyEntry}
+use Rattle.fx_data.specs.declared.table.Table.{Table}
 use Rattle.fx_csv.specs.Cells.{bool_text, datatype, is_one_kind, scalar_text}
 use Rattle.fx_csv.specs.Columns.{column_cmp}
 use Rattle.fx_csv.specs.Records.{line_end, record_bytes}

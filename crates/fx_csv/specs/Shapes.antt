@@ -1,7 +1,7 @@
 -- What the code keeps of the tables that it prints.
 use Rattle.std.specs.Prelude.{ℕ, List, [], ◌∷◌, map}
 use Rattle.std.specs.List.{slice_get}
-use Rattle.fx_data.specs.declared.Table.{Table}
+use Rattle.fx_data.specs.declared.table.Table.{Table}
 use Rattle.fx_csv.specs.declared.column.Column.{Column}
 use Rattle.fx_csv.specs.Printed.{columns, is_key_label, kinds}
 

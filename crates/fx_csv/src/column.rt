@@ -3,13 +3,12 @@ ghost use Rattle.std.specs.Prelude.{◌≡◌, [], ◌∷◌, IfOk};
 ghost use Rattle.fx_csv.specs.Printed.{is_key_label};
 ghost use Rattle.fx_csv.specs.Shapes.{columns_over};
 
-use std::alloc::Global;
-
 use crate::kind::kind_in;
 use crate::names::column_names;
 use fx_base::{Memory, Text};
 use fx_data::Table;
 use fx_value::Kind;
+use std::alloc::Global;
 
 /// A column: its label, whether that is a key label, and the kind of the values that aren't null.
 #[derive(Drop)]

@@ -4,13 +4,12 @@ ghost use Rattle.std.specs.Fmt.{decimal};
 ghost use Rattle.fx_csv.specs.Cells.{scalar_text};
 ghost use Rattle.fx_csv.specs.Lines.{HasFields};
 
-use std::alloc::Global;
-
 use crate::text::push_text;
 use csv::ByteRecord;
 use fx_base::Memory;
 use fx_value::Scalar;
 use itoa::Buffer;
+use std::alloc::Global;
 
 /// A record that is being filled. `room` is for the text of a value.
 #[derive(Drop)]

@@ -6,13 +6,12 @@ ghost use Rattle.std.specs.BTreeSet.{insert_key};
 ghost use Rattle.fx_csv.specs.Columns.{column_cmp};
 ghost use Rattle.fx_csv.specs.Printed.{columns, key_labels};
 
-use std::alloc::Global;
-use std::collections::BTreeSet;
-
 use crate::name::ColumnName;
 use fx_base::Memory;
 use fx_data::{KeyEntry, Table};
 use fx_value::Row;
+use std::alloc::Global;
+use std::collections::BTreeSet;
 
 /// The labels of a table's key and rows, each once.
 pub(crate) fn column_names(alloc: Global, table: &Table) -> Result<BTreeSet<ColumnName>, Memory>
