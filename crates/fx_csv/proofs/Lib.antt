@@ -1,1 +1,3 @@
+pub mod ColumnKinds
+pub mod Inserted
 pub mod RecordBytes

@@ -1,6 +1,10 @@
 //! Annotated CSV: the tables of a yield as the bytes that a run writes.
 #![tactic(auto)]
 
+mod column;
+mod kind;
 mod line;
 mod name;
+mod names;
+mod text;
 mod writer;

@@ -1,18 +1,17 @@
 //! Records as they are filled, field by field.
-ghost use Rattle.std.specs.Prelude.{◌≡◌, ℕ, ◌<◌, List, [], ◌∷◌, ◌++◌, length, take, OnOk};
+ghost use Rattle.std.specs.Prelude.{◌≡◌, ℕ, List, [], ◌∷◌, ◌++◌, OnOk};
 ghost use Rattle.std.specs.Fmt.{decimal};
-ghost use Rattle.fx_time.specs.Time.{time_text};
 ghost use Rattle.fx_csv.specs.Cells.{scalar_text};
 ghost use Rattle.fx_csv.specs.Lines.{HasFields};
 
+use crate::text::push_text;
 use csv::ByteRecord;
 use fx_base::Memory;
-use fx_time::push_time;
 use fx_value::Scalar;
 use itoa::Buffer;
 use std::alloc::Global;
 
-/// A record that is being filled. `room` is for the text of a time.
+/// A record that is being filled. `room` is for the text of a value.
 #[derive(Drop)]
 pub(crate) struct Line {
     pub(crate) fields: ByteRecord,
@@ -29,11 +28,10 @@ impl Line {
         }
     }
 
-    /// Drops the fields from this place on.
-    pub(crate) fn keep(&mut self, count: usize)
-        ensures { (all : List (List ℕ)) → HasFields self.old all → HasFields self.new (take count all) }
+    pub(crate) fn clear(&mut self)
+        ensures { HasFields self.new [] }
     {
-        self.fields.truncate(count);
+        self.fields.clear();
     }
 
     pub(crate) fn push(&mut self, field: &[u8]) -> Result<(), Memory>
@@ -54,21 +52,8 @@ impl Line {
     pub(crate) fn push_scalar(&mut self, value: &Scalar) -> Result<(), Memory>
         ensures { (all : List (List ℕ)) → HasFields self.old all → OnOk result (HasFields self.new (all ++ scalar_text value.now ∷ [])) }
     {
-        match value {
-            Scalar::Null => self.push(b""),
-            Scalar::Bool(true) => self.push(b"true"),
-            Scalar::Bool(false) => self.push(b"false"),
-            Scalar::Int(number) => self.push(Buffer::new().format(*number).as_bytes()),
-            Scalar::Text(text) => self.push(text.as_bytes()),
-            Scalar::Time(time) => self.push_time(time),
-        }
-    }
-
-    fn push_time(&mut self, time: &i64) -> Result<(), Memory>
-        ensures { (all : List (List ℕ)) → HasFields self.old all → OnOk result (HasFields self.new (all ++ time_text time.now ∷ [])) }
-    {
         self.room.clear();
-        push_time(&mut self.room, *time)?;
+        push_text(&mut self.room, value)?;
         self.fields.push_field(self.room.as_slice())?;
         Ok(())
     }
