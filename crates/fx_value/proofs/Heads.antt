@@ -1,5 +1,5 @@
 -- A head as the map of its slots.
-use Rattle.std.proofs.Common.{◌≡◌, ℕ, Bool, T, List, [], ◌∷◌, map, length, get_or, refl, sym, ap, subst, ◌∙◌}
+use Rattle.std.proofs.Common.{◌≡◌, ℕ, Bool, T, List, [], ◌∷◌, map, length, get_or, take, ◌+◌, ◌<◌, ◌++◌, filter_map, refl, sym, ap, subst, ◌∙◌}
 use Rattle.std.specs.Prelude.{None, Some, IsTrue, ◌↔◌}
 use Rattle.std.specs.Cmp.Lexicographic.{pointwise, pointwise_decides, bytes_decides, nat_list_cmp_total}
 use Rattle.std.specs.FinMap as fin
@@ -7,6 +7,9 @@ use Rattle.std.specs.FinMap.{FinMap}
 use Rattle.std.specs.FinMap.Entries.{put, is_sorted, is_sorted-put}
 use Rattle.fx_base.specs.Text.{text_cmp, same_text}
 use Rattle.fx_value.specs.Place.{StandsAt, BelongsAt}
+use Rattle.std.proofs.lemmas.List.{take_more, map-append}
+use Rattle.std.proofs.lemmas.List.Elements.{filter_map-append}
+use Rattle.fx_value.specs.Row.{shared_cell, shared}
 use Rattle.fx_value.specs.Slots.{entry_of, entries_of, labels_of, IsRising}
 use Rattle.fx_value.specs.declared.slot.Slot.{Slot}
 use Rattle.fx_value.specs.declared.source.Source.{Source}
@@ -33,6 +36,10 @@ module _ (cs : List Slot) (head : FinMap text_cmp Source) (view : fin.from_sorte
   labels_are =
       sym (keys-entries_of cs) ∙ ap (map (λ e. e.0)) (sym (fin.entries-from_sorted text_cmp (entries_of cs) rising)) ∙ ap fin.keys view
 
+  -- the shared cells of the slots are the head's
+  pub shared_are : filter_map shared_cell (entries_of cs) ≡ shared head
+  shared_are = ap (filter_map shared_cell) (sym (fin.entries-from_sorted text_cmp (entries_of cs) rising) ∙ ap fin.entries view)
+
   -- the source in the slot at the place of a label is what the head answers
   pub get_at : (k : List ℕ) (i : ℕ) (s : Slot) → StandsAt text_cmp k (entries_of cs) i → s ≡ get_or cs i s → Some s.source ≡ fin.get head k
   get_at k i s at is =
@@ -56,3 +63,7 @@ module _ (cs : List Slot) (head : FinMap text_cmp Source) (view : fin.from_sorte
         ∙ ap (put text_cmp k s) (sym (fin.entries-from_sorted text_cmp (entries_of cs) rising))
         ∙ sym (fin.entries-insert nat_list_cmp_total (fin.from_sorted (entries_of cs)) k s))
         ∙ ap (λ m. fin.insert m k s) view
+
+-- one slot more
+pub shared_more : (cs : List Slot) (i : ℕ) (s : Slot) → i < length cs → s ≡ get_or cs i s → filter_map shared_cell (entries_of (take i cs)) ++ filter_map shared_cell (entry_of s ∷ []) ≡ filter_map shared_cell (entries_of (take (i + 1) cs))
+shared_more cs i s below is = rw (take_more cs i s below, ← is, map-append, filter_map-append) refl

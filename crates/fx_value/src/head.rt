@@ -1,8 +1,10 @@
 ghost use Rattle.std.specs.Prelude.{◌≡◌, ◌↔◌, IfOk, IsTrue};
 ghost use Rattle.std.specs.Option.{option_map};
 ghost use Rattle.std.specs.FinMap as map;
+ghost use Rattle.fx_value.specs.Row.{shared};
 
-use crate::slot::{Slot, have_same_labels, labels_in, place_of, with_source};
+use crate::scalar::Scalar;
+use crate::slot::{Slot, have_same_labels, labels_in, place_of, shared_in, with_source};
 use crate::source::Source;
 use fx_base::{List, Memory, Text};
 use std::alloc::Global;
@@ -67,6 +69,13 @@ impl Head {
         ensures { IfOk result (λ v. v ≡ map.keys self.now) }
     {
         labels_in(alloc, &self.slots)
+    }
+
+    /// The labels whose value all rows share, with that value, rising by bytes.
+    pub fn shared(&self, alloc: Global) -> Result<Vec<(Text, Scalar)>, Memory>
+        ensures { IfOk result (λ v. v.items ≡ shared self.now) }
+    {
+        shared_in(alloc, &self.slots)
     }
 
     /// Whether the heads have the same labels.

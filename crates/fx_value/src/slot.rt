@@ -1,11 +1,14 @@
-ghost use Rattle.std.specs.Prelude.{◌≡◌, IfOk, MatchResult};
+ghost use Rattle.std.specs.Prelude.{◌≡◌, [], ◌∷◌, ◌++◌, IfOk, OnOk, MatchResult};
 ghost use Rattle.std.specs.Cmp.Lexicographic.{pointwise};
 ghost use Rattle.fx_base.specs.Text.{same_text};
 ghost use Rattle.std.specs.FinMap.Entries.{put};
 ghost use Rattle.fx_base.specs.Text.{text_cmp};
+ghost use Rattle.std.specs.List.{filter_map};
+ghost use Rattle.fx_value.specs.Row.{shared_cell};
 ghost use Rattle.fx_value.specs.Place.{StandsAt, BelongsAt};
-ghost use Rattle.fx_value.specs.Slots.{entries_of, labels_of};
+ghost use Rattle.fx_value.specs.Slots.{entry_of, entries_of, labels_of};
 
+use crate::scalar::Scalar;
 use crate::source::Source;
 use fx_base::{List, Memory, Text};
 use std::alloc::Global;
@@ -26,6 +29,19 @@ impl Slot {
             label: self.label.copy()?,
             source: self.source.copy()?,
         })
+    }
+
+    /// Adds the label and the value, where all rows share it.
+    fn share(&self, cells: &mut Vec<(Text, Scalar)>) -> Result<(), Memory>
+        ensures { OnOk result (cells.new.items ≡ cells.old.items ++ filter_map shared_cell (entry_of self.now ∷ [])) }
+    {
+        match &self.source {
+            Source::Fixed(value) => {
+                cells.push((self.label.copy()?, value.copy()?))?;
+                Ok(())
+            }
+            Source::First | Source::Second => Ok(()),
+        }
     }
 
     fn refill(&mut self, source: Source)
@@ -78,6 +94,17 @@ pub fn with_source(
         }
     }
     Ok(copies)
+}
+
+/// The labels of the slots whose value is shared, with that value, in their order.
+pub fn shared_in(alloc: Global, slots: &Vec<Slot>) -> Result<Vec<(Text, Scalar)>, Memory>
+    ensures { IfOk result (λ v. v.items ≡ filter_map shared_cell (entries_of slots.now.items)) }
+{
+    let mut cells = Vec::with_capacity(alloc, slots.len())?;
+    for slot in slots {
+        slot.share(&mut cells)?;
+    }
+    Ok(cells)
 }
 
 /// The labels of the slots, in their order.
