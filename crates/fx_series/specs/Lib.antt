@@ -1,4 +1,5 @@
 pub mod Held
+pub mod HeldAnswers
 pub mod Put
 pub mod Read
 pub mod Store

@@ -3,6 +3,7 @@
 
 mod fault;
 mod series;
+mod series_map;
 mod store;
 
 pub use fault::PutFault;
