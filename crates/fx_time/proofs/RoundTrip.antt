@@ -1,5 +1,5 @@
 -- The text of an instant is a time, and its value is the instant.
-use Rattle.std.proofs.Common.{◌≡◌, ℕ, zero, suc, ◌+◌, ◌-◌, ◌*◌, ◌/◌, ◌%◌, ◌^◌, ◌<◌, ◌≤◌, ◌==◌, inr, true, false, List, [], ◌∷◌, ◌++◌, length, None, ℤ, pos, ◌+ℤ◌, ◌-ℤ◌, ◌*ℤ◌, unsigned_abs, FitsSigned, w64, refl, sym, ap, ◌∙◌, arith, append-nil}
+use Rattle.std.proofs.Common.{◌≡◌, ℕ, zero, suc, ◌-◌, ◌%◌, ◌^◌, ◌<◌, ◌==◌, inr, true, false, List, [], ◌∷◌, length, None, ℤ, pos, ◌+ℤ◌, ◌-ℤ◌, ◌*ℤ◌, FitsSigned, w64, refl, sym, ap, ◌∙◌, arith, append-nil}
 use Rattle.std.specs.Char.{is_ascii_digit}
 use Rattle.std.specs.List.{prefix_len}
 use Rattle.std.specs.Str.{all_ascii_digits}
@@ -12,7 +12,7 @@ use Rattle.jiff_fmt.proofs.Cases.{by_bool}
 use Rattle.jiff_fmt.proofs.ReaderLemmas.{fraction_value-nil}
 use Rattle.jiff_fmt.proofs.TextLemmas.{places-read, trailing_zeros-le, trailing_zeros-mod, significant-not_zero}
 use Rattle.fx_time.specs.Calendar.{nanos_of_day}
-use Rattle.fx_time.specs.Time.{time_text, instant, fraction_text, IsFraction, IsMoment, IsTime, Utc}
+use Rattle.fx_time.specs.Time.{time_text, instant, fraction_text, IsFraction, IsTime, Utc}
 use Rattle.fx_time.proofs.FrontLemmas.{dotted}
 use Rattle.fx_time.proofs.PrintLemmas.{days, nanos, days_is}
 
@@ -57,15 +57,17 @@ unfolding time_text
 time_text-is_time t f =
     let left = int_rem_euclid-parts t nanos_of_day (omega arith) in
     let same = unsigned_abs-parts (int_rem_euclid t (pos nanos_of_day)) in
-    let part = fraction_printed (nanos t % 1_000_000_000) (omega arith) in
-    (f, inr (record {
-      days = days t;
-      nanos = nanos t;
-      digits = part.0;
-      zone = Utc;
-      nanos_in = omega arith;
-      digits_in = part.1;
-      zone_in = tt;
-      spelled = rw part.2 refl;
-      value = value_is t f ∙ omega (arith, signed_arith);
-    }))
+    let part = fraction_printed (nanos t % 1_000_000_000) (omega arith) in (
+      f,
+      inr (record {
+        days = days t;
+        nanos = nanos t;
+        digits = part.0;
+        zone = Utc;
+        nanos_in = omega arith;
+        digits_in = part.1;
+        zone_in = tt;
+        spelled = rw part.2 refl;
+        value = value_is t f ∙ omega (arith, signed_arith);
+      }),
+    )

@@ -6,6 +6,8 @@ mod print;
 mod read;
 mod round_trip;
 mod span;
+#[cfg(test)]
+mod tests;
 
 pub use print::{print_time, push_time};
 pub use read::read_time;

@@ -1,4 +1,4 @@
-use Rattle.std.proofs.Common.{◌≡◌, ℤ, FitsSigned, w64, subst, sym, ◌∙◌}
+use Rattle.std.proofs.Common.{FitsSigned, w64, subst, sym, ◌∙◌}
 use Rattle.std.proofs.lemmas.Int.{to_z-of_z}
 use Rattle.fx_time.specs.Time.{IsTime}
 use Rattle.fx_time.proofs.RoundTrip.{time_text-is_time}
