@@ -14,7 +14,7 @@ use std::alloc::Global;
 use std::marker::Model;
 
 /// Which of its own values a row gives.
-#[derive(Clone, Copy, Debug)]
+#[derive(Clone, Copy)]
 pub(crate) enum OwnPlace {
     First,
     Second,
