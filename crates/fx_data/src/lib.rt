@@ -5,6 +5,8 @@ mod groups;
 mod key;
 mod table;
 mod tables;
+#[cfg(test)]
+mod tests;
 
 pub use groups::gather;
 pub use key::{Key, KeyEntry, key_order, key_order_is_total};
