@@ -2,7 +2,9 @@
 #![tactic(auto)]
 
 mod line;
+mod number;
 mod point;
+mod word;
 
 pub use line::{LineError, LineFault, LineMode, LineRead};
 pub use point::{Point, SeriesKey, Tag};
