@@ -4,6 +4,7 @@
 mod line;
 mod number;
 mod point;
+mod tags;
 mod word;
 
 pub use line::{LineError, LineFault, LineMode, LineRead};

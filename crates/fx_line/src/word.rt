@@ -1,6 +1,6 @@
-ghost use Rattle.std.specs.Prelude.{◌≡◌, not, IsTrue, IfOk};
+ghost use Rattle.std.specs.Prelude.{◌≡◌, ℕ, not, IsTrue, List, ◌∷◌, IfOk, IfSome, IfNone};
 ghost use Rattle.std.specs.List.{list_all, position, position_or_len};
-ghost use Rattle.fx_line.specs.Line.{is_letter, is_word_byte, is_name};
+ghost use Rattle.fx_line.specs.Line.{is_letter, is_word_byte, is_name, is_value};
 ghost use Rattle.fx_line.specs.Parts.{IsCut, is_other};
 
 use std::alloc::Global;
@@ -53,6 +53,28 @@ pub fn is_name(word: &[u8]) -> bool
     match word {
         [first, ..] => is_letter(*first),
         [] => false,
+    }
+}
+
+/// Whether a run of word bytes is a tag's value.
+pub fn is_value(word: &[u8]) -> bool
+    requires { IsTrue (list_all is_word_byte word.now) }
+    ensures { result ≡ is_value word.now }
+{
+    match word {
+        [_, ..] => true,
+        [] => false,
+    }
+}
+
+/// What stands behind a byte that the bytes begin with.
+pub fn skip(bytes: &[u8], byte: u8) -> Option<&[u8]>
+    ensures found { IfSome result (λ r. bytes.now ≡ byte ∷ r.now) }
+    ensures none { IfNone result ((r : List ℕ) → bytes.now ≡ byte ∷ r → ⊥) }
+{
+    match bytes {
+        [first, rest @ ..] if *first == byte => Some(rest),
+        _ => None,
     }
 }
 
