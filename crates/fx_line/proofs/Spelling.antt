@@ -151,3 +151,68 @@ no_end_here bytes tags rest h comma space us s other =
 pub tag_shorter : (rest after : List ℕ) (t : Tag) (next : List ℕ) → rest ≡ 44 ∷ after → BeginsWithTag after t next → length next < length rest
 tag_shorter rest after t next comma tag =
     omega (arith, ap length comma, ap length tag.spelled, length-append t.key (61 ∷ (t.value ++ next)), length-append t.value next)
+
+word_from_digits : (d : List ℕ) → list_all is_digit d ≡ true → list_all is_word_byte d ≡ true
+word_from_digits [] h = refl
+word_from_digits (b ∷ rest) h =
+    let parts = and_parts _ _ h in
+    and_from _ _ (or_right (is_letter b) _ (or_left (is_digit b) _ parts.0)) (word_from_digits rest parts.1)
+
+all_digits : (d : List ℕ) → is_digits d ≡ true → list_all is_digit d ≡ true
+all_digits [] h = refl
+all_digits (b ∷ rest) h = h
+
+signed_word : (minus : Bool) (d : List ℕ) → list_all is_word_byte d ≡ true → list_all is_word_byte (cond minus (45 ∷ d) d) ≡ true
+signed_word true d h = h
+signed_word false d h = h
+
+word_from_number : (n : Number) → is_digits n.digits ≡ true → list_all is_word_byte (number_text n ++ 105 ∷ []) ≡ true
+word_from_number n h =
+    list_all-append is_word_byte (number_text n) (105 ∷ [])
+    ∙ and_from _ _ (signed_word n.minus n.digits (word_from_digits n.digits (all_digits n.digits h))) refl
+
+-- a field's text with what stands behind it, as it is cut
+field_cut : (field : List ℕ) (n : Number) (rest : List ℕ) → field_text field n ++ 32 ∷ rest ≡ field ++ 61 ∷ ((number_text n ++ 105 ∷ []) ++ 32 ∷ rest)
+field_cut field n rest = append_assoc field (61 ∷ (number_text n ++ 105 ∷ [])) (32 ∷ rest)
+
+-- what the two cuts of a field find
+pub field_at : (bytes word after field : List ℕ) (n : Number) (rest : List ℕ) → IsCut bytes word after → BeginsWithField bytes field n rest → (word ≡ field) × (after ≡ 61 ∷ ((number_text n ++ 105 ∷ []) ++ 32 ∷ rest))
+field_at bytes word after field n rest cut h =
+    cut_at bytes word after field (61 ∷ ((number_text n ++ 105 ∷ []) ++ 32 ∷ rest)) cut (word_from_name field h.name) refl (h.spelled ∙ field_cut field n rest)
+
+pub integer_at : (bytes word after next value last field : List ℕ) (n : Number) (rest : List ℕ) → IsCut bytes word after → after ≡ 61 ∷ next → IsCut next value last → BeginsWithField bytes field n rest → (value ≡ number_text n ++ 105 ∷ []) × (last ≡ 32 ∷ rest)
+integer_at bytes word after next value last field n rest first equals second h =
+    let at = field_at bytes word after field n rest first h in
+    let tails : next ≡ (number_text n ++ 105 ∷ []) ++ 32 ∷ rest = cc (sym equals ∙ at.1) in
+    cut_at next value last (number_text n ++ 105 ∷ []) (32 ∷ rest) second (word_from_number n h.digits) refl tails
+
+pub field_found : (bytes word after next value last rest digits : List ℕ) (n : Number) → IsCut bytes word after → after ≡ 61 ∷ next → IsCut next value last → last ≡ 32 ∷ rest → value ≡ digits ++ 105 ∷ [] → IsNumber digits n → is_name word ≡ true → BeginsWithField bytes word n rest
+field_found bytes word after next value last rest digits n first equals second space i number name = record {
+  spelled = first.joined ∙ ap (λ b. word ++ b) (equals ∙ ap (λ b. 61 ∷ b) (second.joined ∙ ap (λ v. v ++ last) (i ∙ ap (λ d. d ++ 105 ∷ []) number.spelled) ∙ ap (λ b. (number_text n ++ 105 ∷ []) ++ b) space)) ∙ sym (field_cut word n rest);
+  name = name;
+  digits = number.digits
+}
+
+-- no `=` behind the word
+pub no_equals_field : (bytes word after : List ℕ) → IsCut bytes word after → ((r : List ℕ) → after ≡ 61 ∷ r → ⊥) → (field : List ℕ) (n : Number) (rest : List ℕ) → BeginsWithField bytes field n rest → ⊥
+no_equals_field bytes word after cut none field n rest h = none ((number_text n ++ 105 ∷ []) ++ 32 ∷ rest) (field_at bytes word after field n rest cut h).1
+
+-- no space behind the value
+pub no_space_field : (bytes word after next value last : List ℕ) → IsCut bytes word after → after ≡ 61 ∷ next → IsCut next value last → ((r : List ℕ) → last ≡ 32 ∷ r → ⊥) → (field : List ℕ) (n : Number) (rest : List ℕ) → BeginsWithField bytes field n rest → ⊥
+no_space_field bytes word after next value last first equals second none field n rest h = none rest (integer_at bytes word after next value last field n rest first equals second h).1
+
+-- no `i` at the value's end
+pub no_i_field : (bytes word after next value last : List ℕ) → IsCut bytes word after → after ≡ 61 ∷ next → IsCut next value last → ((r : List ℕ) → value ≡ r ++ 105 ∷ [] → ⊥) → (field : List ℕ) (n : Number) (rest : List ℕ) → BeginsWithField bytes field n rest → ⊥
+no_i_field bytes word after next value last first equals second none field n rest h = none (number_text n) (integer_at bytes word after next value last field n rest first equals second h).0
+
+-- no integer before the `i`
+pub no_number_field : (bytes word after next value last digits : List ℕ) → IsCut bytes word after → after ≡ 61 ∷ next → IsCut next value last → value ≡ digits ++ 105 ∷ [] → ((n : Number) → IsNumber digits n → ⊥) → (field : List ℕ) (n : Number) (rest : List ℕ) → BeginsWithField bytes field n rest → ⊥
+no_number_field bytes word after next value last digits first equals second i none field n rest h =
+    let at = integer_at bytes word after next value last field n rest first equals second h in
+    let same : digits ≡ number_text n = append_cancel_right digits (number_text n) (105 ∷ []) (sym i ∙ at.0) in
+    none n (record { spelled = same; digits = h.digits })
+
+-- the word is no name
+pub no_name_field : (bytes word after : List ℕ) → IsCut bytes word after → is_name word ≡ false → (field : List ℕ) (n : Number) (rest : List ℕ) → BeginsWithField bytes field n rest → ⊥
+no_name_field bytes word after cut wrong field n rest h =
+    let at = field_at bytes word after field n rest cut h in both_ways (is_name field) (ap is_name (sym at.0) ∙ wrong) h.name

@@ -1,6 +1,7 @@
 //! One line of line protocol to its points, and what stored points are.
 #![tactic(auto)]
 
+mod field;
 mod line;
 mod number;
 mod point;
