@@ -55,10 +55,10 @@ same_tag bytes t u r s g h =
     (λ i. record { key = at.0 i; value = is.0 i }, is.1)
 
 -- the first of some tags
-tags_text : (t : Tag) (ts : List Tag) (r : List ℕ) → flat_map tag_text (t ∷ ts) ++ r ≡ 44 ∷ (t.key ++ 61 ∷ (t.value ++ (flat_map tag_text ts ++ r)))
+pub tags_text : (t : Tag) (ts : List Tag) (r : List ℕ) → flat_map tag_text (t ∷ ts) ++ r ≡ 44 ∷ (t.key ++ 61 ∷ (t.value ++ (flat_map tag_text ts ++ r)))
 tags_text t ts r = simp append_assoc
 
-tags_end : (ts : List Tag) (r : List ℕ) → ends_run is_word_byte r ≡ true → ends_run is_word_byte (flat_map tag_text ts ++ r) ≡ true
+pub tags_end : (ts : List Tag) (r : List ℕ) → ends_run is_word_byte r ≡ true → ends_run is_word_byte (flat_map tag_text ts ++ r) ≡ true
 tags_end [] r h = h
 tags_end (t ∷ ts) r h = refl
 
@@ -166,13 +166,13 @@ signed_word : (minus : Bool) (d : List ℕ) → list_all is_word_byte d ≡ true
 signed_word true d h = h
 signed_word false d h = h
 
-word_from_number : (n : Number) → is_digits n.digits ≡ true → list_all is_word_byte (number_text n ++ 105 ∷ []) ≡ true
+pub word_from_number : (n : Number) → is_digits n.digits ≡ true → list_all is_word_byte (number_text n ++ 105 ∷ []) ≡ true
 word_from_number n h =
     list_all-append is_word_byte (number_text n) (105 ∷ [])
     ∙ and_from _ _ (signed_word n.minus n.digits (word_from_digits n.digits (all_digits n.digits h))) refl
 
 -- a field's text with what stands behind it, as it is cut
-field_cut : (field : List ℕ) (n : Number) (rest : List ℕ) → field_text field n ++ 32 ∷ rest ≡ field ++ 61 ∷ ((number_text n ++ 105 ∷ []) ++ 32 ∷ rest)
+pub field_cut : (field : List ℕ) (n : Number) (rest : List ℕ) → field_text field n ++ 32 ∷ rest ≡ field ++ 61 ∷ ((number_text n ++ 105 ∷ []) ++ 32 ∷ rest)
 field_cut field n rest = append_assoc field (61 ∷ (number_text n ++ 105 ∷ [])) (32 ∷ rest)
 
 -- what the two cuts of a field find

@@ -4,6 +4,7 @@
 mod field;
 mod line;
 mod number;
+mod parts;
 mod point;
 mod tags;
 mod word;
