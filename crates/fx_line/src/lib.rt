@@ -4,6 +4,7 @@
 mod field;
 mod line;
 mod number;
+mod order;
 mod parts;
 mod point;
 mod tags;

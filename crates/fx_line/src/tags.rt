@@ -13,8 +13,8 @@ use crate::word::{is_name, is_value, skip, take_word};
 /// A tag as it stands in a line.
 #[derive(Drop)]
 pub struct TagBytes<'a> {
-    key: &'a [u8],
-    value: &'a [u8],
+    pub key: &'a [u8],
+    pub value: &'a [u8],
 }
 
 impl<'a> Model for TagBytes<'a> {
