@@ -1,4 +1,6 @@
 pub mod Digits
+pub mod Keys
 pub mod Runs
+pub mod Sorting
 pub mod Spelling
 pub mod Unique
