@@ -123,11 +123,13 @@ once_along xs ys same h = record { once = λ q. subst (λ (l : List Tag). length
 
 -- where no key stands twice, all differ
 once_rest : (t : Tag) (ts : List Tag) → IsOnce (t ∷ ts) → IsOnce ts
-once_rest t ts h = record { once = λ q.
-    elim (keyed q t) as (λ b. length (cond b (t ∷ under q ts) (under q ts)) ≤ 1 → length (under q ts) ≤ 1) [
-      | true ↦ λ most. omega arith
-      | false ↦ λ most. most
-    ] (h.once q) }
+once_rest t ts h = record {
+  once = λ q.
+      elim (keyed q t) as (λ b. length (cond b (t ∷ under q ts) (under q ts)) ≤ 1 → length (under q ts) ≤ 1) [
+        | true ↦ λ most. omega arith
+        | false ↦ λ most. most
+      ] (h.once q);
+}
 
 alone : (t : Tag) (ts : List Tag) → IsOnce (t ∷ ts) → under t.key ts ≡ []
 alone t ts h =
@@ -171,10 +173,12 @@ pub record IsInOrder (ts : List Tag) : Type 0 where
   pub in_order : (k : ℕ) (d : Tag) → k + 1 < length ts → is_lt (text_cmp (get_or ts (k + 1) d).key (get_or ts k d).key) ≡ false
 
 in_order_rest : (t : Tag) (ts : List Tag) → IsInOrder (t ∷ ts) → IsInOrder ts
-in_order_rest t ts h = record { in_order = λ k d within.
-    let step : suc k + 1 ≡ suc (k + 1) = omega arith in
-    let at = h.in_order (suc k) d (omega arith) in
-    subst (λ n. is_lt (text_cmp (get_or (t ∷ ts) n d).key (get_or ts k d).key) ≡ false) step at }
+in_order_rest t ts h = record {
+  in_order = λ k d within.
+      let step : suc k + 1 ≡ suc (k + 1) = omega arith in
+      let at = h.in_order (suc k) d (omega arith) in
+      subst (λ n. is_lt (text_cmp (get_or (t ∷ ts) n d).key (get_or ts k d).key) ≡ false) step at;
+}
 
 tied_neighbours : (r s : Ordering) → s ≡ ordering_reverse r → is_lt r ≡ false → is_lt s ≡ false → is_eq r ≡ true
 tied_neighbours Less s e p q = absurd (false≢true (sym p))

@@ -1,3 +1,4 @@
+pub mod Answered
 pub mod Digits
 pub mod Keys
 pub mod Runs

@@ -32,7 +32,7 @@ pub cut_is : (bytes word rest : List ℕ) (n : ℕ) → n ≡ position_or_len (�
 cut_is bytes word rest n at front back = record {
   joined = sym (take-append-drop n bytes) ∙ ap (λ w. w ++ drop n bytes) (sym front) ∙ ap (λ r. word ++ r) (sym back);
   passes = ap (list_all is_word_byte) (front ∙ ap (λ m. take m bytes) at) ∙ run_passes is_word_byte bytes;
-  ends = ap (ends_run is_word_byte) (back ∙ ap (λ m. drop m bytes) at) ∙ run_ends is_word_byte bytes
+  ends = ap (ends_run is_word_byte) (back ∙ ap (λ m. drop m bytes) at) ∙ run_ends is_word_byte bytes;
 }
 
 pub length_or : (p : ℕ → Bool) (bytes : List ℕ) → unwrap_or (position p bytes) (length bytes) ≡ position_or_len p bytes

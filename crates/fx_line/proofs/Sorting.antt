@@ -51,7 +51,7 @@ place-put : (t : Tag) (us : List Tag) → find text_cmp t.key (pairs_of us) ≡ 
 place-put t [] none = refl
 place-put t (u ∷ us) none =
     elim (text_cmp t.key u.key) as (λ r. cond (is_eq r) (Some u.value) (find text_cmp t.key (pairs_of us)) ≡ None
-        → pairs_of (cond (is_lt r) (t ∷ u ∷ us) (u ∷ place_tag t us)) ≡ by_order r (pair_of t ∷ pair_of u ∷ pairs_of us) ((u.key, t.value) ∷ pairs_of us) (pair_of u ∷ put text_cmp t.key t.value (pairs_of us))) [
+    → pairs_of (cond (is_lt r) (t ∷ u ∷ us) (u ∷ place_tag t us)) ≡ by_order r (pair_of t ∷ pair_of u ∷ pairs_of us) ((u.key, t.value) ∷ pairs_of us) (pair_of u ∷ put text_cmp t.key t.value (pairs_of us))) [
       | Less ↦ λ _. refl
       | Equal ↦ λ e. absurd (not_some u.value e)
       | Greater ↦ λ e. ap (λ es. pair_of u ∷ es) (place-put t us e)
@@ -93,7 +93,7 @@ pub sorted_if_rises : (xs ys : List Tag) → IsStableByKey key_of text_cmp xs ys
 sorted_if_rises xs ys stable up =
     let differ = distinct_if_rises xs ys stable up in
     let same : pairs_of ys ≡ puts xs = same_entries text_cmp nat_list_cmp_total (slice_cmp-IsAntisymmetric nat_cmp-IsAntisymmetric) (pairs_of ys) (puts xs)
-      (to_T _ (sorted_from_rises ys up)) (sorted_puts xs) (same_find xs ys (same_under xs ys stable)) in
+    (to_T _ (sorted_from_rises ys up)) (sorted_puts xs) (same_find xs ys (same_under xs ys stable)) in
     same_pairs ys (sort_tags xs) (same ∙ sym (sort-puts xs differ))
 
 pub repeated_if_not : (xs ys : List Tag) → IsSortedByKey key_of text_cmp ys → IsStableByKey key_of text_cmp xs ys → rises ys ≡ false → IsDistinct same_text (map key_of xs) → ⊥

@@ -110,7 +110,7 @@ pub has_read_more : (bytes : List ℕ) (tags : List Tag) (rest after : List ℕ)
 has_read_more bytes tags rest after t next h comma tag = record {
   joined = h.joined ∙ ap (λ b. flat_map tag_text tags ++ b) (comma ∙ ap (λ b. 44 ∷ b) tag.spelled) ∙ sym (last_tag tags t next);
   kinds = list_all-append is_tag tags (t ∷ []) ∙ and_from _ _ h.kinds (and_from _ _ tag.kind refl);
-  ends = tag.ends
+  ends = tag.ends;
 }
 
 pub tags_found : (bytes : List ℕ) (tags : List Tag) (rest last : List ℕ) → HasRead bytes tags rest → rest ≡ 32 ∷ last → BeginsWithTags bytes tags last
@@ -128,7 +128,7 @@ tag_behind : (rest after : List ℕ) (u : Tag) (us : List Tag) (s : List ℕ) �
 tag_behind rest after u us s comma h = record {
   spelled = cc (sym comma ∙ h.spelled ∙ tags_text u us (32 ∷ s));
   kind = (and_parts _ _ h.kinds).0;
-  ends = tags_end us (32 ∷ s) refl
+  ends = tags_end us (32 ∷ s) refl;
 }
 
 no_tag_at : (rest after : List ℕ) → rest ≡ 44 ∷ after → ((t : Tag) (r : List ℕ) → BeginsWithTag after t r → ⊥) → (us : List Tag) (s : List ℕ) → BeginsWithTags rest us s → ⊥
@@ -190,7 +190,7 @@ pub field_found : (bytes word after next value last rest digits : List ℕ) (n :
 field_found bytes word after next value last rest digits n first equals second space i number name = record {
   spelled = first.joined ∙ ap (λ b. word ++ b) (equals ∙ ap (λ b. 61 ∷ b) (second.joined ∙ ap (λ v. v ++ last) (i ∙ ap (λ d. d ++ 105 ∷ []) number.spelled) ∙ ap (λ b. (number_text n ++ 105 ∷ []) ++ b) space)) ∙ sym (field_cut word n rest);
   name = name;
-  digits = number.digits
+  digits = number.digits;
 }
 
 -- no `=` behind the word

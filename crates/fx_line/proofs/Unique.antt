@@ -55,7 +55,7 @@ same_field bytes f g m n r s one other =
     record {
       field = names.0;
       integer = same_number (number_text m) m n (record { spelled = refl; digits = one.digits }) (record { spelled = texts; digits = other.digits });
-      rest = tails
+      rest = tails;
     }
 
 field_behind : (w : Written) (line bytes : List ℕ) → IsSpelled line w → bytes ≡ tail_of w → BeginsWithField bytes w.field w.integer (number_text w.time)

@@ -7,8 +7,10 @@ mod number;
 mod order;
 mod parts;
 mod point;
+mod reader;
 mod tags;
 mod word;
 
 pub use line::{LineError, LineFault, LineMode, LineRead};
 pub use point::{Point, SeriesKey, Tag};
+pub use reader::read_line;

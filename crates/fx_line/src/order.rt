@@ -5,11 +5,9 @@ ghost use Rattle.fx_base.specs.Text.{text_cmp, same_text};
 ghost use Rattle.fx_line.specs.Line.{sort_tags};
 ghost use Rattle.fx_line.specs.Order.{key_of, comes_before, rises};
 
-use std::cmp::Ordering;
-
-use fx_base::Memory;
-
 use crate::tags::TagBytes;
+use fx_base::Memory;
+use std::cmp::Ordering;
 
 fn key_order(a: &TagBytes<'_>, b: &TagBytes<'_>) -> Ordering
     ensures { result ≡ text_cmp a.now.key b.now.key }

@@ -2,22 +2,21 @@ ghost use Rattle.std.specs.Prelude.{◌≡◌, None, Some, IfOk, IfErr, IfSome, 
 ghost use Rattle.fx_line.specs.Line.{Written, error_of, number_of};
 ghost use Rattle.fx_line.specs.Parts.{IsSpelled};
 
-use std::alloc::Global;
-use std::marker::Model;
-
-use fx_base::Memory;
-
 use crate::field::read_field;
 use crate::line::LineError;
 use crate::number::{NumberBytes, read_number};
 use crate::tags::{TagBytes, read_tags};
 use crate::word::{is_name, take_word};
+use fx_base::Memory;
+use std::alloc::Global;
+use std::marker::Model;
 
 /// The most tags that a line may have.
 const MAX_TAGS: usize = 64;
 
 /// The least and the greatest time of a point.
 const MIN_TIME: i64 = i64::MIN + 2;
+
 const MAX_TIME: i64 = i64::MAX - 1;
 
 /// A line cut into its parts, the tags in the order of the line.

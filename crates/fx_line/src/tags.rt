@@ -3,12 +3,11 @@ ghost use Rattle.fx_line.specs.declared.point.Tag.{Tag};
 ghost use Rattle.fx_line.specs.Line.{is_word_byte};
 ghost use Rattle.fx_line.specs.Parts.{ends_run, BeginsWithTag, BeginsWithTags};
 
+use crate::point::Tag;
+use crate::word::{is_name, is_value, skip, take_word, text_of};
+use fx_base::{List, Memory};
 use std::alloc::Global;
 use std::marker::Model;
-
-use fx_base::Memory;
-
-use crate::word::{is_name, is_value, skip, take_word};
 
 /// A tag as it stands in a line.
 #[derive(Drop)]
@@ -76,4 +75,18 @@ pub fn read_tags(alloc: Global, bytes: &[u8]) -> Result<Option<TagsRead<'_>>, Me
         Some(rest) => Ok(Some(TagsRead { tags, rest })),
         None => Ok(None),
     }
+}
+
+/// The tags as texts.
+pub fn tag_list(alloc: Global, tags: &[TagBytes<'_>]) -> Result<List<Tag>, Memory>
+    ensures { IfOk result (λ list. list ≡ tags.now) }
+{
+    let mut list = List::of(Vec::with_capacity(alloc, tags.len())?);
+    for tag in tags {
+        list.push(Tag {
+            key: text_of(alloc, tag.key)?,
+            value: text_of(alloc, tag.value)?,
+        })?;
+    }
+    Ok(list)
 }

@@ -3,9 +3,8 @@ ghost use Rattle.std.specs.List.{list_all, position, position_or_len};
 ghost use Rattle.fx_line.specs.Line.{is_letter, is_word_byte, is_name, is_value};
 ghost use Rattle.fx_line.specs.Parts.{IsCut, is_other};
 
-use std::alloc::Global;
-
 use fx_base::{Memory, Text};
+use std::alloc::Global;
 
 fn is_letter(byte: u8) -> bool
     ensures { result ≡ is_letter byte }
