@@ -1,32 +1,23 @@
 -- What the answers for a line say: its point, and why it is refused.
-use Rattle.std.proofs.Common.{◌≡◌, ◌≢◌, ℕ, ◌-◌, ◌<◌, ◌≤◌, ◌^◌, Bool, true, false, not, ◌&&◌, cond, List, [], ◌∷◌, map, length, refl, sym, ap, ◌∙◌, subst, arith, Option, Some, None, ℤ, pos, negsuc, is_lt, ⊎_elim, leb}
-use Rattle.std.specs.Prelude.{int_le, FitsSigned, All, nat_eq}
+use Rattle.std.proofs.Common.{◌≡◌, ◌≢◌, ℕ, ◌-◌, ◌≤◌, ◌^◌, Bool, true, false, not, ◌&&◌, cond, List, [], ◌∷◌, map, length, refl, sym, ap, ◌∙◌, subst, arith, Some, None, ℤ, pos, negsuc, is_lt, ⊎_elim, leb}
+use Rattle.std.specs.Prelude.{FitsSigned, All, nat_eq}
 use Rattle.std.specs.Int.{w64}
 use Rattle.std.specs.List.{list_all, IsDistinct, starts_with}
 use Rattle.std.proofs.lemmas.Bool.{and_parts, or_cases, leb-true, ne_eqb, false≢true}
 use Rattle.std.proofs.lemmas.List.Elements.{All-nil, All-cons}
 use Rattle.fx_base.specs.Text.{text_cmp, same_text}
-use Rattle.fx_value.specs.declared.scalar.Scalar.TheVariants.{Int}
-use Rattle.fx_line.specs.declared.line.LineError.{LineError}
-use Rattle.fx_line.specs.declared.line.LineError.TheVariants.{Syntax, TooManyTags, NameReserved, FloatField, UintField, IntRange, TimeRange}
+use Rattle.fx_line.specs.declared.line.LineError.TheVariants.{Syntax, TooManyTags, IntRange, TimeRange}
 use Rattle.fx_line.specs.declared.point.Tag.{Tag}
 use Rattle.fx_line.specs.declared.point.Point.{Point}
-use Rattle.fx_line.specs.Line.{Written, is_letter, is_name, is_tag, is_int, is_time, is_between, number_of, IsPlain, error_of, place_tag, sort_tags, point_of, Gives, IsRefused}
+use Rattle.fx_line.specs.Line.{Written, is_letter, is_name, is_tag, is_int, is_time, number_of, IsPlain, error_of, place_tag, sort_tags, point_of, Gives, IsRefused}
 use Rattle.fx_line.specs.Order.{key_of}
 use Rattle.fx_line.specs.Parts.{IsSpelled}
 use Rattle.fx_line.specs.Stored.{IsLawful}
 use Rattle.fx_line.proofs.Sorting.{sort_rises}
 use Rattle.fx_line.proofs.Unique.{same_spelled}
 
-plain : (line : List ℕ) (w : Written) → IsSpelled line w → IsDistinct same_text (map key_of w.tags) → IsPlain line w
-plain line w h keys = record { spelled = h.spelled; measurement = h.measurement; tags = h.tags; keys = keys; field = h.field; integer = h.integer; time = h.time }
-
 spelled : (line : List ℕ) (w : Written) → IsPlain line w → IsSpelled line w
 spelled line w h = record { spelled = h.spelled; measurement = h.measurement; tags = h.tags; field = h.field; integer = h.integer; time = h.time }
-
--- the line is not plain
-pub refused_unspelled : (line : List ℕ) → line ≢ [] → ((w : Written) → IsSpelled line w → ⊥) → IsRefused line Syntax
-refused_unspelled line some none = (some, λ w h. none w (spelled line w h))
 
 pub refused_repeated : (line : List ℕ) (v : Written) → line ≢ [] → IsSpelled line v → (IsDistinct same_text (map key_of v.tags) → ⊥) → IsRefused line Syntax
 refused_repeated line v some h repeated = (
@@ -35,29 +26,6 @@ refused_repeated line v some h repeated = (
       let same : w ≡ v = same_spelled line w v (spelled line w other) h in
       repeated (subst (λ (u : Written). IsDistinct same_text (map key_of u.tags)) same other.keys),
 )
-
--- the errors of a plain line
-never_syntax : (a b c : Bool) → cond a (Some TooManyTags) (cond b (Some IntRange) (cond c (Some TimeRange) None)) ≡ Some Syntax → ⊥
-never_syntax true b c e = cc e
-never_syntax false true c e = cc e
-never_syntax false false true e = cc e
-never_syntax false false false e = cc e
-
-refused_as : (line : List ℕ) (w : Written) (e : LineError) → IsPlain line w → error_of w ≡ Some e → (e ≡ Syntax → ⊥) → IsRefused line e
-refused_as line w Syntax h is other = absurd (other refl)
-refused_as line w TooManyTags h is other = (w, h, is)
-refused_as line w NameReserved h is other = (w, h, is)
-refused_as line w FloatField h is other = (w, h, is)
-refused_as line w UintField h is other = (w, h, is)
-refused_as line w IntRange h is other = (w, h, is)
-refused_as line w TimeRange h is other = (w, h, is)
-
-pub refused_plain : (line : List ℕ) (w : Written) (e : LineError) → IsSpelled line w → IsDistinct same_text (map key_of w.tags) → error_of w ≡ Some e → IsRefused line e
-refused_plain line w e h keys is =
-    refused_as line w e (plain line w h keys) is (λ same. never_syntax _ _ _ (is ∙ ap Some same))
-
-pub gives_point : (line : List ℕ) (w : Written) (p : Point) → IsSpelled line w → IsDistinct same_text (map key_of w.tags) → error_of w ≡ None → p ≡ point_of w → Gives line (p ∷ [])
-gives_point line w p h keys none is = (w, plain line w h keys, none, is)
 
 -- a point that is given is lawful
 fits_int : (n : ℤ) → is_int n ≡ true → FitsSigned w64 n

@@ -1,6 +1,6 @@
 -- Integers as they are written: the sign comes off in one way.
 use Rattle.std.proofs.Common.{◌≡◌, ℕ, ◌≤◌, Bool, true, false, cond, List, [], ◌∷◌, refl, sym, ap, ◌∙◌, eqb, arith}
-use Rattle.std.proofs.lemmas.Bool.{both_ways, and_parts, leb-true, ne_eqb, eqb-true}
+use Rattle.std.proofs.lemmas.Bool.{and_parts, leb-true, ne_eqb}
 use Rattle.fx_line.specs.Line.{Number, is_digits, is_digit, number_text}
 use Rattle.fx_line.specs.Parts.{IsNumber, cut_sign}
 
@@ -16,24 +16,8 @@ sign_comes_off false (b ∷ rest) h =
 pub cut-text : (n : Number) → is_digits n.digits ≡ true → cut_sign (number_text n) ≡ n
 cut-text n h = sign_comes_off n.minus n.digits h
 
-pub text-cut : (bytes : List ℕ) → number_text (cut_sign bytes) ≡ bytes
-text-cut [] = refl
-text-cut (b ∷ rest) =
-    elim (eqb b 45) as (λ t. eqb b 45 ≡ t → number_text (cond t (record { minus = true; digits = rest }) (record { minus = false; digits = b ∷ rest })) ≡ b ∷ rest) [
-      | true ↦ λ e. ap (λ x. x ∷ rest) (sym (eqb-true b 45 e))
-      | false ↦ λ e. refl
-    ] refl
-
-pub number_found : (bytes : List ℕ) (n : Number) → n ≡ cut_sign bytes → is_digits n.digits ≡ true → IsNumber bytes n
-number_found bytes n is h = record { spelled = sym (text-cut bytes) ∙ ap number_text (sym is); digits = h }
-
 pub number_is : (bytes : List ℕ) (n : Number) → IsNumber bytes n → n ≡ cut_sign bytes
 number_is bytes n h = sym (cut-text n h.digits) ∙ ap cut_sign (sym h.spelled)
-
-pub no_number : (bytes : List ℕ) (n : Number) → n ≡ cut_sign bytes → is_digits n.digits ≡ false → (m : Number) → IsNumber bytes m → ⊥
-no_number bytes n is h m other =
-    let same : m ≡ n = number_is bytes m other ∙ sym is in
-    both_ways (is_digits m.digits) (ap (λ x. is_digits x.digits) same ∙ h) other.digits
 
 pub same_number : (bytes : List ℕ) (m n : Number) → IsNumber bytes m → IsNumber bytes n → m ≡ n
 same_number bytes m n g h = number_is bytes m g ∙ sym (number_is bytes n h)

@@ -1,12 +1,11 @@
 -- Words: longest runs of bytes that pass a test, cut from the front of some bytes.
-use Rattle.std.proofs.Common.{◌≡◌, ℕ, suc, ◌+◌, ◌<◌, ◌≤◌, Bool, true, false, not, cond, List, [], ◌∷◌, ◌++◌, length, take, drop, refl, sym, ap, ◌∙◌, subst, arith, take-append-drop, unwrap_or, ltb, Option, None, Some}
+use Rattle.std.proofs.Common.{◌≡◌, ℕ, suc, ◌+◌, ◌≤◌, Bool, true, false, not, cond, List, [], ◌∷◌, ◌++◌, length, take, drop, refl, sym, ap, ◌∙◌, arith, take-append-drop, unwrap_or, ltb, None, Some}
 use Rattle.std.specs.List.{list_all, position, position_or_len}
 use Rattle.std.proofs.lemmas.List.Sums.{prefix_len-le-length}
-use Rattle.std.proofs.lemmas.Bool.{both_ways, not-true, and_parts, ltb-false, ltb-true, cond-true, cond-false}
+use Rattle.std.proofs.lemmas.Bool.{both_ways, not-true, and_parts, ltb-false}
 use Rattle.fx_line.specs.Line.{is_word_byte}
 use Rattle.fx_line.specs.Parts.{ends_run, IsCut}
 
--- `one_add n : 1 + n ≡ suc n`
 one_add : (n : ℕ) → 1 + n ≡ suc n
 one_add n = omega arith
 

@@ -1,5 +1,5 @@
 -- What a stable sort by key leaves is the list that the definition makes, where all keys differ.
-use Rattle.std.proofs.Common.{◌≡◌, ℕ, ◌≤◌, Bool, true, false, ◌&&◌, cond, List, [], ◌∷◌, map, length, refl, sym, ap, ◌∙◌, subst, arith, Option, Some, None, Ordering, is_lt, T}
+use Rattle.std.proofs.Common.{◌≡◌, ℕ, true, false, cond, List, [], ◌∷◌, map, refl, sym, ap, ◌∙◌, Option, Some, None, is_lt, T}
 use Rattle.std.specs.declared.cmp.Ordering.TheVariants.{Less, Equal, Greater}
 use Rattle.std.specs.Ordering.{is_eq, eq_by_cmp}
 use Rattle.std.specs.List.{AllByRecursion, IsDistinct}
@@ -12,7 +12,7 @@ use Rattle.fx_base.specs.Text.{text_cmp, same_text}
 use Rattle.fx_line.specs.declared.point.Tag.{Tag}
 use Rattle.fx_line.specs.Line.{place_tag, sort_tags}
 use Rattle.fx_line.specs.Order.{key_of, rises}
-use Rattle.fx_line.proofs.Keys.{keyed, under, pair_of, pairs_of, to_T, from_T, less_is, same_under, sorted_from_rises, once_from_rises, once_along, distinct_from_once, once_from_distinct, IsOnce, IsInOrder, in_order_from_sorted, not_once}
+use Rattle.fx_line.proofs.Keys.{keyed, under, pair_of, pairs_of, to_T, from_T, less_is, same_under, sorted_from_rises, once_from_rises, once_along, distinct_from_once, once_from_distinct, in_order_from_sorted, not_once}
 
 -- the first value under a key
 first_value : List Tag → Option (List ℕ)

@@ -1,10 +1,9 @@
 -- Tags and fields: the bytes that they begin are cut in one way only.
-use Rattle.std.proofs.Common.{◌≡◌, ℕ, Bool, true, false, not, cond, ◌&&◌, List, [], ◌∷◌, ◌++◌, refl, sym, ap, ◌∙◌, subst, append_assoc, length, ◌<◌, length-append, arith}
+use Rattle.std.proofs.Common.{◌≡◌, ℕ, Bool, true, false, cond, ◌&&◌, List, [], ◌∷◌, ◌++◌, refl, sym, ap, ◌∙◌, append_assoc}
 use Rattle.std.specs.List.{list_all, flat_map}
 use Rattle.std.proofs.lemmas.Bool.{both_ways, and_parts, and_from, or_left, or_right}
 use Rattle.std.proofs.lemmas.List.{append_cancel_right}
 use Rattle.std.proofs.lemmas.List.Folds.{list_all-append}
-use Rattle.std.proofs.lemmas.List.Concat.{flat_map-append}
 use Rattle.fx_line.specs.declared.point.Tag.{Tag}
 use Rattle.fx_line.specs.Line.{is_letter, is_digit, is_word_byte, is_name, is_value, is_tag, is_digits, tag_text, number_text, field_text, Number}
 use Rattle.fx_line.specs.Parts.{ends_run, IsCut, IsNumber, BeginsWithTag, BeginsWithTags, BeginsWithField}
@@ -97,25 +96,6 @@ pub record HasRead (bytes : List ℕ) (tags : List Tag) (rest : List ℕ) : Type
   pub kinds : list_all is_tag tags ≡ true
   pub ends : ends_run is_word_byte rest ≡ true
 
-pub has_read_none : (bytes : List ℕ) → ends_run is_word_byte bytes ≡ true → HasRead bytes [] bytes
-has_read_none bytes ends = record { joined = refl; kinds = refl; ends = ends }
-
-last_tag : (tags : List Tag) (t : Tag) (rest : List ℕ) → flat_map tag_text (tags ++ t ∷ []) ++ rest ≡ flat_map tag_text tags ++ 44 ∷ (t.key ++ 61 ∷ (t.value ++ rest))
-last_tag tags t rest =
-    ap (λ b. b ++ rest) (flat_map-append tag_text tags (t ∷ []))
-    ∙ append_assoc (flat_map tag_text tags) (flat_map tag_text (t ∷ [])) rest
-    ∙ ap (λ b. flat_map tag_text tags ++ b) (tags_text t [] rest)
-
-pub has_read_more : (bytes : List ℕ) (tags : List Tag) (rest after : List ℕ) (t : Tag) (next : List ℕ) → HasRead bytes tags rest → rest ≡ 44 ∷ after → BeginsWithTag after t next → HasRead bytes (tags ++ t ∷ []) next
-has_read_more bytes tags rest after t next h comma tag = record {
-  joined = h.joined ∙ ap (λ b. flat_map tag_text tags ++ b) (comma ∙ ap (λ b. 44 ∷ b) tag.spelled) ∙ sym (last_tag tags t next);
-  kinds = list_all-append is_tag tags (t ∷ []) ∙ and_from _ _ h.kinds (and_from _ _ tag.kind refl);
-  ends = tag.ends;
-}
-
-pub tags_found : (bytes : List ℕ) (tags : List Tag) (rest last : List ℕ) → HasRead bytes tags rest → rest ≡ 32 ∷ last → BeginsWithTags bytes tags last
-tags_found bytes tags rest last h space = record { spelled = h.joined ∙ ap (λ b. flat_map tag_text tags ++ b) space; kinds = h.kinds }
-
 -- where the bytes begin with tags, what stands behind those that were read begins with the others
 goes_on_from : (bytes : List ℕ) (tags : List Tag) (rest : List ℕ) (us : List Tag) (s : List ℕ) → HasRead bytes tags rest → BeginsWithTags bytes us s → GoesOn tags rest us s
 goes_on_from bytes tags rest us s h other =
@@ -146,11 +126,6 @@ no_end_at rest comma space (u ∷ us) s h = comma _ (h.spelled ∙ tags_text u u
 pub no_end_here : (bytes : List ℕ) (tags : List Tag) (rest : List ℕ) → HasRead bytes tags rest → ((r : List ℕ) → rest ≡ 44 ∷ r → ⊥) → ((r : List ℕ) → rest ≡ 32 ∷ r → ⊥) → (us : List Tag) (s : List ℕ) → BeginsWithTags bytes us s → ⊥
 no_end_here bytes tags rest h comma space us s other =
     let g = goes_on_from bytes tags rest us s h other in no_end_at rest comma space g.more s g.rest
-
--- what stands behind a tag is shorter
-pub tag_shorter : (rest after : List ℕ) (t : Tag) (next : List ℕ) → rest ≡ 44 ∷ after → BeginsWithTag after t next → length next < length rest
-tag_shorter rest after t next comma tag =
-    omega (arith, ap length comma, ap length tag.spelled, length-append t.key (61 ∷ (t.value ++ next)), length-append t.value next)
 
 word_from_digits : (d : List ℕ) → list_all is_digit d ≡ true → list_all is_word_byte d ≡ true
 word_from_digits [] h = refl
@@ -186,13 +161,6 @@ integer_at bytes word after next value last field n rest first equals second h =
     let tails : next ≡ (number_text n ++ 105 ∷ []) ++ 32 ∷ rest = cc (sym equals ∙ at.1) in
     cut_at next value last (number_text n ++ 105 ∷ []) (32 ∷ rest) second (word_from_number n h.digits) refl tails
 
-pub field_found : (bytes word after next value last rest digits : List ℕ) (n : Number) → IsCut bytes word after → after ≡ 61 ∷ next → IsCut next value last → last ≡ 32 ∷ rest → value ≡ digits ++ 105 ∷ [] → IsNumber digits n → is_name word ≡ true → BeginsWithField bytes word n rest
-field_found bytes word after next value last rest digits n first equals second space i number name = record {
-  spelled = first.joined ∙ ap (λ b. word ++ b) (equals ∙ ap (λ b. 61 ∷ b) (second.joined ∙ ap (λ v. v ++ last) (i ∙ ap (λ d. d ++ 105 ∷ []) number.spelled) ∙ ap (λ b. (number_text n ++ 105 ∷ []) ++ b) space)) ∙ sym (field_cut word n rest);
-  name = name;
-  digits = number.digits;
-}
-
 -- no `=` behind the word
 pub no_equals_field : (bytes word after : List ℕ) → IsCut bytes word after → ((r : List ℕ) → after ≡ 61 ∷ r → ⊥) → (field : List ℕ) (n : Number) (rest : List ℕ) → BeginsWithField bytes field n rest → ⊥
 no_equals_field bytes word after cut none field n rest h = none ((number_text n ++ 105 ∷ []) ++ 32 ∷ rest) (field_at bytes word after field n rest cut h).1
@@ -211,8 +179,3 @@ no_number_field bytes word after next value last digits first equals second i no
     let at = integer_at bytes word after next value last field n rest first equals second h in
     let same : digits ≡ number_text n = append_cancel_right digits (number_text n) (105 ∷ []) (sym i ∙ at.0) in
     none n (record { spelled = same; digits = h.digits })
-
--- the word is no name
-pub no_name_field : (bytes word after : List ℕ) → IsCut bytes word after → is_name word ≡ false → (field : List ℕ) (n : Number) (rest : List ℕ) → BeginsWithField bytes field n rest → ⊥
-no_name_field bytes word after cut wrong field n rest h =
-    let at = field_at bytes word after field n rest cut h in both_ways (is_name field) (ap is_name (sym at.0) ∙ wrong) h.name

@@ -1,12 +1,11 @@
 -- A line has one spelling: its parts are cut in one way only.
-use Rattle.std.proofs.Common.{◌≡◌, ℕ, Bool, true, false, List, [], ◌∷◌, ◌++◌, refl, sym, ap, ◌∙◌, append-nil}
-use Rattle.std.specs.List.{list_all, flat_map}
-use Rattle.std.proofs.lemmas.Bool.{both_ways}
+use Rattle.std.proofs.Common.{◌≡◌, ℕ, List, [], ◌∷◌, ◌++◌, refl, sym, ◌∙◌, append-nil}
+use Rattle.std.specs.List.{flat_map}
 use Rattle.std.proofs.lemmas.List.{append_cancel_right}
 use Rattle.fx_line.specs.declared.point.Tag.{Tag}
-use Rattle.fx_line.specs.Line.{is_word_byte, is_name, is_tag, is_digits, tag_text, number_text, field_text, line_text, Number, Written}
+use Rattle.fx_line.specs.Line.{tag_text, number_text, field_text, Number, Written}
 use Rattle.fx_line.specs.Parts.{IsCut, IsNumber, BeginsWithTags, BeginsWithField, IsSpelled}
-use Rattle.fx_line.proofs.Digits.{cut-text, same_number}
+use Rattle.fx_line.proofs.Digits.{same_number}
 use Rattle.fx_line.proofs.Spelling.{word_from_name, word_from_number, cut_at, field_cut, field_at, integer_at, tags_end, tags_at, tags_text, GoesOn}
 
 -- what stands behind the measurement
@@ -60,11 +59,6 @@ same_field bytes f g m n r s one other =
 
 field_behind : (w : Written) (line bytes : List ℕ) → IsSpelled line w → bytes ≡ tail_of w → BeginsWithField bytes w.field w.integer (number_text w.time)
 field_behind w line bytes h is = record { spelled = is; name = h.field; digits = h.integer }
-
--- the exits of the reader
-pub no_measurement : (line word rest : List ℕ) → IsCut line word rest → is_name word ≡ false → (w : Written) → IsSpelled line w → ⊥
-no_measurement line word rest cut wrong w h =
-    both_ways (is_name w.measurement) (ap is_name (sym (measurement_at line word rest w cut h).0) ∙ wrong) h.measurement
 
 pub no_tags : (line word rest : List ℕ) → IsCut line word rest → ((ts : List Tag) (s : List ℕ) → BeginsWithTags rest ts s → ⊥) → (w : Written) → IsSpelled line w → ⊥
 no_tags line word rest cut none w h = none w.tags (tail_of w) (tags_of_line line word rest w cut h)

@@ -1,4 +1,4 @@
-use Rattle.std.proofs.Common.{◌≡◌, List, map, Option, IfSome, IfNone, subst}
+use Rattle.std.proofs.Common.{◌≡◌, map, Option, IfSome, IfNone, subst}
 use Rattle.std.specs.List.{IsDistinct}
 use Rattle.std.specs.declared.vec.Vec.{Vec}
 use Rattle.std.specs.declared.alloc.Global.{Global}
