@@ -1,3 +1,4 @@
+pub mod BlockSteps
 pub mod ColumnKinds
 pub mod Inserted
 pub mod RecordBytes

@@ -1,6 +1,7 @@
 //! Annotated CSV: the tables of a yield as the bytes that a run writes.
 #![tactic(auto)]
 
+mod block;
 mod column;
 mod kind;
 mod line;
