@@ -2,3 +2,4 @@ pub mod BlockSteps
 pub mod ColumnKinds
 pub mod Inserted
 pub mod RecordBytes
+pub mod Steps

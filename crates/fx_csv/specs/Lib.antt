@@ -2,6 +2,7 @@ pub mod Cells
 pub mod Columns
 pub mod Lines
 pub mod Printed
+pub mod Rows
 pub mod Records
 pub mod Runs
 pub mod Shapes

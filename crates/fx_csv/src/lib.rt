@@ -2,6 +2,7 @@
 #![tactic(auto)]
 
 mod block;
+mod cell;
 mod column;
 mod kind;
 mod line;
