@@ -14,7 +14,7 @@ use Rattle.fx_data.specs.declared.table.Table.{Table}
 use Rattle.fx_csv.specs.declared.block.Block.{Block}
 use Rattle.fx_csv.specs.declared.column.Column.{Column}
 use Rattle.fx_csv.specs.Cells.{is_one_kind, same_kind}
-use Rattle.fx_csv.specs.Printed.{columns, is_block, key_labels, kinds, kinds_in, same_labels, same_shape, HasOneKind}
+use Rattle.fx_csv.specs.Printed.{column_labels, is_block, key_labels, kinds, kinds_in, same_labels, same_shape, HasOneKind}
 use Rattle.fx_csv.specs.Runs.{runs, runs_from}
 use Rattle.fx_csv.specs.Shapes.{agrees, IsFirstBlock, all_widened, column_of, columns_over, may_share, widened}
 
@@ -127,21 +127,21 @@ module _ (t next : Table) (rest : List Table) where
       → is_block (t ∷ (rest ++ next ∷ [])) ≡ (same_labels (key_labels t) (key_labels next) && pointwise agrees (columns_over (t ∷ rest)) (columns_over (next ∷ [])))
   block_more passes one =
       let alike = list_all (same_shape t) rest in
-      let kinds_alike = list_all (λ label. is_one_kind (kinds label (t ∷ rest))) (columns t) in
-      let more = list_all (λ label. is_one_kind (kinds label (t ∷ (rest ++ next ∷ [])))) (columns t) in
-      let grown : more ≡ list_all kind_here (columns t)
+      let kinds_alike = list_all (λ label. is_one_kind (kinds label (t ∷ rest))) (column_labels t) in
+      let more = list_all (λ label. is_one_kind (kinds label (t ∷ (rest ++ next ∷ [])))) (column_labels t) in
+      let grown : more ≡ list_all kind_here (column_labels t)
           = list_all_under (λ label. is_one_kind (kinds label (t ∷ rest))) (λ label. is_one_kind (kinds label (t ∷ (rest ++ next ∷ [])))) kind_here
-              (λ label. one_kind_more label t next rest one) (columns t) (second_so alike kinds_alike passes) in
+              (λ label. one_kind_more label t next rest one) (column_labels t) (second_so alike kinds_alike passes) in
       (λ i. list_all-append (same_shape t) rest (next ∷ []) i && grown i)
-      ∙ ordered alike (same_labels (key_labels t) (key_labels next)) (same_labels (columns t) (columns next)) (list_all kind_here (columns t)) (first_so alike kinds_alike passes)
-      ∙ ap (λ b. same_labels (key_labels t) (key_labels next) && b) (sym (agree_where (columns t) (columns next)))
+      ∙ ordered alike (same_labels (key_labels t) (key_labels next)) (same_labels (column_labels t) (column_labels next)) (list_all kind_here (column_labels t)) (first_so alike kinds_alike passes)
+      ∙ ap (λ b. same_labels (key_labels t) (key_labels next) && b) (sym (agree_where (column_labels t) (column_labels next)))
 
   -- the columns of the block with the next table
   pub columns_more : pointwise agrees (columns_over (t ∷ rest)) (columns_over (next ∷ [])) ≡ true
       → all_widened (columns_over (t ∷ rest)) (columns_over (next ∷ [])) ≡ columns_over (t ∷ (rest ++ next ∷ []))
   columns_more e =
-      widened_are (columns t) (columns next)
-        (first_so (same_labels (columns t) (columns next)) (list_all kind_here (columns t)) (sym (agree_where (columns t) (columns next)) ∙ e))
+      widened_are (column_labels t) (column_labels next)
+        (first_so (same_labels (column_labels t) (column_labels next)) (list_all kind_here (column_labels t)) (sym (agree_where (column_labels t) (column_labels next)) ∙ e))
 
   -- the answer that is given by what is kept of both
   pub verdict : (a b : Bool) (cs ds : List Column) → is_block (t ∷ rest) ≡ true → HasOneKind next
@@ -188,7 +188,7 @@ list_all_each p each (x ∷ xs) = λ i. (ap (λ b. b && list_all p xs) (each x) 
 
 pub alone : (t : Table) → HasOneKind t → is_block (t ∷ []) ≡ true
 alone t one =
-    list_all_each (λ label. is_one_kind (kinds label (t ∷ []))) (λ label. ap is_one_kind (append-nil (kinds_in label t)) ∙ one label) (columns t)
+    list_all_each (λ label. is_one_kind (kinds label (t ∷ []))) (λ label. ap is_one_kind (append-nil (kinds_in label t)) ∙ one label) (column_labels t)
 
 run_ends : {X : Type 0} (passes : List X → Bool) (run : List X) (x : X) (rest : List X) → passes (run ++ x ∷ []) ≡ false
     → runs_from passes run (x ∷ rest) ≡ run ∷ runs passes (x ∷ rest)

@@ -1,5 +1,6 @@
 pub mod BlockSteps
 pub mod ColumnKinds
 pub mod Inserted
+pub mod LawfulRows
 pub mod RecordBytes
 pub mod Steps

@@ -9,7 +9,7 @@ use Rattle.fx_data.specs.declared.table.Table.{Table}
 use Rattle.fx_csv.specs.declared.column.Column.{Column}
 use Rattle.fx_csv.specs.declared.block.Block.{Block}
 use Rattle.fx_csv.specs.Cells.{same_kind}
-use Rattle.fx_csv.specs.Printed.{columns, is_block, is_key_label, kinds}
+use Rattle.fx_csv.specs.Printed.{column_labels, is_block, is_key_label, kinds}
 use Rattle.fx_csv.specs.Runs.{runs}
 
 -- a column of a run whose first table is t
@@ -19,7 +19,7 @@ column_of t run label = record { label = label; grouped = is_key_label t label; 
 -- the columns of a run
 abbrev pub columns_over : List Table → List Column
 columns_over [] = []
-columns_over (t ∷ rest) = map (column_of t (t ∷ rest)) (columns t)
+columns_over (t ∷ rest) = map (column_of t (t ∷ rest)) (column_labels t)
 
 -- these are the columns of a block of which t is the first table
 pub record AreColumns (t : Table) (rest : List Table) (cs : List Column) : Type 0 where

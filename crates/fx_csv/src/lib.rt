@@ -8,5 +8,6 @@ mod kind;
 mod line;
 mod name;
 mod names;
+mod rows;
 mod text;
 mod writer;
