@@ -1,5 +1,6 @@
 pub mod Cells
 pub mod Columns
+pub mod Heads
 pub mod Lines
 pub mod Printed
 pub mod Rows

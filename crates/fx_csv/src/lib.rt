@@ -4,6 +4,7 @@
 mod block;
 mod cell;
 mod column;
+mod head;
 mod kind;
 mod line;
 mod name;
