@@ -130,8 +130,8 @@ module _ (t next : Table) (rest : List Table) where
       let kinds_alike = list_all (λ label. is_one_kind (kinds label (t ∷ rest))) (column_labels t) in
       let more = list_all (λ label. is_one_kind (kinds label (t ∷ (rest ++ next ∷ [])))) (column_labels t) in
       let grown : more ≡ list_all kind_here (column_labels t)
-          = list_all_under (λ label. is_one_kind (kinds label (t ∷ rest))) (λ label. is_one_kind (kinds label (t ∷ (rest ++ next ∷ [])))) kind_here
-              (λ label. one_kind_more label t next rest one) (column_labels t) (second_so alike kinds_alike passes) in
+      = list_all_under (λ label. is_one_kind (kinds label (t ∷ rest))) (λ label. is_one_kind (kinds label (t ∷ (rest ++ next ∷ [])))) kind_here
+      (λ label. one_kind_more label t next rest one) (column_labels t) (second_so alike kinds_alike passes) in
       (λ i. list_all-append (same_shape t) rest (next ∷ []) i && grown i)
       ∙ ordered alike (same_labels (key_labels t) (key_labels next)) (same_labels (column_labels t) (column_labels next)) (list_all kind_here (column_labels t)) (first_so alike kinds_alike passes)
       ∙ ap (λ b. same_labels (key_labels t) (key_labels next) && b) (sym (agree_where (column_labels t) (column_labels next)))
@@ -141,7 +141,7 @@ module _ (t next : Table) (rest : List Table) where
       → all_widened (columns_over (t ∷ rest)) (columns_over (next ∷ [])) ≡ columns_over (t ∷ (rest ++ next ∷ []))
   columns_more e =
       widened_are (column_labels t) (column_labels next)
-        (first_so (same_labels (column_labels t) (column_labels next)) (list_all kind_here (column_labels t)) (sym (agree_where (column_labels t) (column_labels next)) ∙ e))
+      (first_so (same_labels (column_labels t) (column_labels next)) (list_all kind_here (column_labels t)) (sym (agree_where (column_labels t) (column_labels next)) ∙ e))
 
   -- the answer that is given by what is kept of both
   pub verdict : (a b : Bool) (cs ds : List Column) → is_block (t ∷ rest) ≡ true → HasOneKind next

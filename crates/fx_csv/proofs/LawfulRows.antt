@@ -1,5 +1,5 @@
 -- In a lawful table a key label has the key's value in each row.
-use Rattle.std.proofs.Common.{◌≡◌, ℕ, Bool, true, false, ◌&&◌, List, [], ◌∷◌, ◌++◌, map, Option, None, Some, refl, ap, sym, ◌∙◌}
+use Rattle.std.proofs.Common.{◌≡◌, ℕ, true, false, ◌&&◌, List, [], ◌∷◌, ◌++◌, map, Option, None, Some, refl, ap, sym, ◌∙◌}
 use Rattle.std.specs.Prelude.{if◌then◌else◌, unwrap_or}
 use Rattle.std.specs.Fmt.{decimal}
 use Rattle.std.specs.Option.{option_or}
@@ -11,7 +11,7 @@ use Rattle.fx_value.specs.declared.scalar.Scalar.{Scalar}
 use Rattle.fx_value.specs.declared.scalar.Scalar.TheVariants as scalar
 use Rattle.fx_data.specs.declared.key.KeyEntry.{KeyEntry}
 use Rattle.fx_data.specs.declared.table.Table.{Table}
-use Rattle.fx_data.specs.Table.{shown, HasKey}
+use Rattle.fx_data.specs.Table.{HasKey}
 use Rattle.fx_csv.specs.declared.column.Column.{Column}
 use Rattle.fx_csv.specs.Cells.{scalar_text}
 use Rattle.fx_csv.specs.Printed.{column_labels, pinned_value, row_record, value_at}
@@ -28,12 +28,12 @@ not_pinned [] row label v h there = refl
 not_pinned (e ∷ rest) row label v h there =
     elim e.pinned as (λ p. e.pinned ≡ p → (if (p && same_text e.label label) then Some e.value else pinned_value rest label) ≡ None) [
       | true ↦ λ p. elim (same_text e.label label) as (λ s. same_text e.label label ≡ s → (if s then Some e.value else pinned_value rest label) ≡ None) [
-          | true ↦ λ s.
-              let here : map.get row e.label ≡ Some v = ap (map.get row) ((bytes_decides e.label label).0 s) ∙ there in
-              let none : map.get row e.label ≡ None = h.0 ∙ ap (λ b. if b then None else Some e.value) p in
-              absurd (cc (here, none))
-          | false ↦ λ s. not_pinned rest row label v h.1 there
-        ] refl
+        | true ↦ λ s.
+            let here : map.get row e.label ≡ Some v = ap (map.get row) ((bytes_decides e.label label).0 s) ∙ there in
+            let none : map.get row e.label ≡ None = h.0 ∙ ap (λ b. if b then None else Some e.value) p in
+            absurd (cc (here, none))
+        | false ↦ λ s. not_pinned rest row label v h.1 there
+      ] refl
       | false ↦ λ p. not_pinned rest row label v h.1 there
     ] refl
 
@@ -45,8 +45,8 @@ cell_is : (entries : List KeyEntry) (row : Row) (label : List ℕ) → HasKey en
 cell_is [] row label h = refl
 cell_is (e ∷ rest) row label h =
     elim (same_text e.label label) as (λ s. same_text e.label label ≡ s
-        → cell_text row (cell_for (if s then Some e.value else key_value rest label) label)
-        ≡ shows (e ∷ rest) row label (if (e.pinned && s) then Some e.value else pinned_value rest label)) [
+    → cell_text row (cell_for (if s then Some e.value else key_value rest label) label)
+    ≡ shows (e ∷ rest) row label (if (e.pinned && s) then Some e.value else pinned_value rest label)) [
       | true ↦ λ s.
           let same : e.label ≡ label = (bytes_decides e.label label).0 s in
           elim e.pinned as (λ p. e.pinned ≡ p → scalar_text e.value ≡ shows (e ∷ rest) row label (if (p && true) then Some e.value else pinned_value rest label)) [
@@ -73,5 +73,5 @@ pub rows_are : (number : ℕ) (t : Table) (cs : List Column) → map (λ c. c.la
 rows_are number t cs labels [] h = refl
 rows_are number t cs labels (row ∷ rows) h =
     let one : map (cell_text row) (map (λ c. cell_of t.key.entries c.label) cs) ≡ map (λ label. scalar_text (value_at t label row)) (column_labels t)
-        = cells_are t row h.0 cs ∙ ap (map (λ label. scalar_text (value_at t label row))) labels in
+    = cells_are t row h.0 cs ∙ ap (map (λ label. scalar_text (value_at t label row))) labels in
     λ i. record_bytes ([] ∷ [] ∷ decimal number ∷ one i) ++ rows_are number t cs labels rows h.1 i

@@ -6,12 +6,11 @@ ghost use Rattle.fx_csv.specs.Printed.{HasOneKind, is_block, key_labels, same_la
 ghost use Rattle.fx_csv.specs.Shapes.{agrees, all_widened, columns_over, may_share, widened, AreColumns, IsFirstBlock};
 ghost use Rattle.fx_data.specs.declared.table.Table.{Table};
 
-use std::alloc::Global;
-
 use crate::column::{Column, columns_of};
 use fx_base::Memory;
 use fx_data::{KeyEntry, Table};
 use fx_value::Kind;
+use std::alloc::Global;
 
 /// The columns of a block, and how many tables stand in it.
 #[derive(Drop)]

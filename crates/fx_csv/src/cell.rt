@@ -4,14 +4,13 @@ ghost use Rattle.std.specs.Option.{option_map};
 ghost use Rattle.fx_csv.specs.Lines.{HasFields};
 ghost use Rattle.fx_csv.specs.Rows.{cell_for, cell_of, cell_text, key_value};
 
-use std::alloc::Global;
-
 use crate::column::Column;
 use crate::line::Line;
 use crate::text::push_text;
 use fx_base::{List, Memory, Text};
 use fx_data::KeyEntry;
 use fx_value::{Row, Scalar};
+use std::alloc::Global;
 
 /// What a column shows in the rows of one table.
 #[derive(Drop)]

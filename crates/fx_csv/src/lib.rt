@@ -9,6 +9,9 @@ mod kind;
 mod line;
 mod name;
 mod names;
+mod print;
 mod rows;
 mod text;
 mod writer;
+
+pub use print::{print_yield, write_yield};

@@ -7,8 +7,6 @@ ghost use Rattle.fx_csv.specs.Records.{record_bytes};
 ghost use Rattle.fx_csv.specs.Rows.{record_of};
 ghost use Rattle.fx_csv.specs.Writers.{Holds};
 
-use std::alloc::Global;
-
 use crate::cell::{Cell, cells_of, push_cells};
 use crate::column::Column;
 use crate::line::Line;
@@ -17,6 +15,7 @@ use csv::Writer;
 use fx_base::Memory;
 use fx_data::Table;
 use fx_value::Row;
+use std::alloc::Global;
 
 /// Writes the rows of a table under these columns, which are its own.
 pub(crate) fn put_table(
@@ -33,7 +32,13 @@ pub(crate) fn put_table(
         → OnOk result (Holds writer.new (bytes ++ flat_map record_bytes (map (row_record number table.now) table.now.rows))) }
 {
     let cells = cells_of(alloc, table.key.entries.as_slice(), columns)?;
-    put_rows(writer, line, number, cells.as_slice(), table.rows.as_slice())
+    put_rows(
+        writer,
+        line,
+        number,
+        cells.as_slice(),
+        table.rows.as_slice(),
+    )
 }
 
 fn put_rows(

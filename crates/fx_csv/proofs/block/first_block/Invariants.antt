@@ -1,4 +1,4 @@
-use Rattle.std.proofs.Common.{◌≡◌, [], ◌∷◌, take, drop}
+use Rattle.std.proofs.Common.{◌≡◌, ◌∷◌, take, drop}
 use Rattle.fx_csv.specs.Printed.{is_block}
 use Rattle.fx_csv.specs.Runs.{runs, runs_from}
 use Rattle.fx_csv.specs.Shapes.{AreColumns}

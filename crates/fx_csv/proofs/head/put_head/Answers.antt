@@ -17,4 +17,4 @@ returns c bytes h =
     let third = c.in_ok-push-3.ensures (a ∷ b ∷ []) second in
     let last = c.in_ok-push_fields.ensures (a ∷ b ∷ d ∷ []) third in
     subst (λ lead. OnOk c.put_line.result (Holds c.put_line.new.writer (bytes ++ record_bytes (lead ++ fields)))) c.head_lead.ensures
-        (c.put_line.ensures bytes (a ∷ b ∷ d ∷ fields) h last two)
+    (c.put_line.ensures bytes (a ∷ b ∷ d ∷ fields) h last two)

@@ -20,4 +20,4 @@ returns c bytes h =
     let two = c.in_ok-put_head-2.ensures (bytes ++ p) one in
     let three = c.in_ok-put_head-3.ensures ((bytes ++ p) ++ q) two in
     subst (λ all. OnOk c.put_head-4.result (Holds c.put_head-4.new.writer all)) (joined bytes p q r s)
-        (c.put_head-4.ensures (((bytes ++ p) ++ q) ++ r) three)
+    (c.put_head-4.ensures (((bytes ++ p) ++ q) ++ r) three)

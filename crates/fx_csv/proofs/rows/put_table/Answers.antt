@@ -13,8 +13,8 @@ returns c bytes h =
     let number = c.args.number in
     let table = c.args.table.now in
     let cells : c.as_slice-2.result.now ≡ map (λ c. cell_of table.key.entries c.label) c.args.columns.now
-        = c.as_slice-2.ensures.value ∙ c.in_ok-cells.ensures ∙ ap (λ es. map (λ c. cell_of es c.label) c.args.columns.now) c.as_slice.ensures in
+    = c.as_slice-2.ensures.value ∙ c.in_ok-cells.ensures ∙ ap (λ es. map (λ c. cell_of es c.label) c.args.columns.now) c.as_slice.ensures in
     let same : flat_map (λ row. record_bytes (record_of number c.as_slice-2.result.now row)) c.as_slice-3.result.now ≡ flat_map record_bytes (map (row_record number table) table.rows)
-        = (λ i. flat_map (λ row. record_bytes (record_of number (cells i) row)) (c.as_slice-3.ensures i))
-        ∙ rows_are number table c.args.columns.now c.requires.labels table.rows c.requires.lawful.columns in
+    = (λ i. flat_map (λ row. record_bytes (record_of number (cells i) row)) (c.as_slice-3.ensures i))
+    ∙ rows_are number table c.args.columns.now c.requires.labels table.rows c.requires.lawful.columns in
     subst (λ bs. OnOk c.put_rows.result (Holds c.put_rows.new.writer (bytes ++ bs))) same (c.put_rows.ensures bytes h)

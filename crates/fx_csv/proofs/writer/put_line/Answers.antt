@@ -1,9 +1,7 @@
 -- What the crate's writer appends is the record's bytes.
-use Rattle.std.proofs.Common.{◌≡◌, ◌≢◌, ◌∙◌, ◌≤◌, length, ap, sym, subst}
-use Rattle.csv.specs.Records.{fields_of}
-use Rattle.csv.specs.Writing.{row_text, writer_setup}
+use Rattle.std.proofs.Common.{◌≢◌, ◌∙◌}
+use Rattle.csv.specs.Writing.{writer_setup}
 use Rattle.csv.specs.declared.writer.QuoteStyle.TheVariants as style
-use Rattle.fx_csv.specs.Writers.{crlf}
 use Rattle.fx_csv.proofs.RecordBytes.{row_text_is}
 use Rattle.fx_csv.proofs.writer.put_line.Goals as goal
 
