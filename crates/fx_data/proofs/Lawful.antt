@@ -1,8 +1,111 @@
--- Lists of lawful tables.
-use Rattle.std.proofs.Common.{[]}
+-- Lists of lawful tables, and that gathered tables are lawful.
+use Rattle.std.proofs.Common.{◌≡◌, Bool, true, false, T, List, [], ◌∷◌, ◌++◌, map, length, refl, sym, subst, ◌∙◌, arith}
+use Rattle.std.specs.Prelude.{cond, ◌&&◌}
+use Rattle.std.specs.declared.cmp.Ordering.{Ordering}
+use Rattle.std.specs.declared.cmp.Ordering.TheVariants.{Less, Equal, Greater}
+use Rattle.std.specs.Ordering.{eq_by_cmp, is_lt}
+use Rattle.std.specs.List.{AllByRecursion, filter, flat_map}
 use Rattle.std.specs.List.Sorted.{IsStrictlySortedBy}
-use Rattle.fx_data.specs.Table.{AreLawful}
+use Rattle.std.specs.Cmp.{Equal-is}
+use Rattle.std.specs.FinMap as fin
+use Rattle.std.specs.FinMap.{FinMap}
+use Rattle.std.specs.FinMap.Entries.{by_order, put, is_sorted, below_all}
+use Rattle.fx_base.specs.Text.{text_cmp}
+use Rattle.fx_value.specs.declared.scalar.Scalar.{Scalar}
+use Rattle.fx_data.specs.declared.key.Key.{Key}
+use Rattle.fx_data.specs.declared.table.Table.{Table}
+use Rattle.fx_data.specs.Gathered.{rows_with, grouped, gathered, table_of}
+use Rattle.fx_data.specs.Key.{key_cmp}
+use Rattle.fx_data.specs.Table.{HasKey, IsLawfulTable, AreLawful}
+use Rattle.fx_data.proofs.Keys.{key_cmp_total, key_same}
 
 pub no_tables_lawful : AreLawful []
 unfolding IsStrictlySortedBy
 no_tables_lawful = record { each = tt; rising = tt }
+
+abbrev Rows : Type 0
+Rows = List (FinMap text_cmp Scalar)
+
+-- a key with lawful rows
+abbrev IsGood : Key × Rows → Type 0
+IsGood e = IsLawfulTable (table_of e)
+
+all-append : {X : Type 0} (P : X → Type 0) (xs ys : List X) → AllByRecursion P xs → AllByRecursion P ys → AllByRecursion P (xs ++ ys)
+all-append P [] ys g h = h
+all-append P (x ∷ xs) ys g h = (g.0, all-append P xs ys g.1 h)
+
+all_of_none : (es : List (Key × Rows)) → length es ≡ 0 → AllByRecursion IsGood es
+all_of_none [] n = tt
+all_of_none (e ∷ es) n = absurd (omega arith)
+
+-- ---- each table
+
+-- the rows under a key are lawful for it
+all_with : (k : Key) (ts : List Table) → AllByRecursion IsLawfulTable ts → AllByRecursion (HasKey k.entries) (rows_with k ts)
+all_with k [] h = tt
+all_with k (t ∷ ts) h =
+    elim (eq_by_cmp key_cmp k t.key) as (λ b. eq_by_cmp key_cmp k t.key ≡ b
+    → AllByRecursion (HasKey k.entries) (flat_map (λ u. u.rows) (cond b (t ∷ filter (λ u. eq_by_cmp key_cmp k u.key) ts) (filter (λ u. eq_by_cmp key_cmp k u.key) ts)))) [
+      | true ↦ λ b. all-append _ t.rows _
+          (subst (λ (q : Key). AllByRecursion (HasKey q.entries) t.rows) (sym (key_same k t.key ((Equal-is _).0 b))) h.0.columns)
+          (all_with k ts h.1)
+      | false ↦ λ b. all_with k ts h.1
+    ] refl
+
+all_pairs : (ts us : List Table) → AllByRecursion IsLawfulTable ts → AllByRecursion IsLawfulTable us
+    → AllByRecursion IsGood (map (λ u. (u.key, rows_with u.key ts)) us)
+all_pairs ts [] g h = tt
+all_pairs ts (u ∷ us) g h = (record { rising = h.0.rising; columns = all_with u.key ts g }, all_pairs ts us g h.1)
+
+all-put : (k : Key) (v : Rows) (es : List (Key × Rows)) → IsGood (k, v) → AllByRecursion IsGood es → AllByRecursion IsGood (put key_cmp k v es)
+all-put k v [] g h = (g, tt)
+all-put k v (e ∷ es) g h =
+    elim (key_cmp k e.0) as (λ o. key_cmp k e.0 ≡ o → AllByRecursion IsGood (by_order o ((k, v) ∷ e ∷ es) ((e.0, v) ∷ es) (e ∷ put key_cmp k v es))) [
+      | Less ↦ λ o. (g, h)
+      | Equal ↦ λ o. (subst (λ (q : Key). IsGood (q, v)) (key_same k e.0 o) g, h.1)
+      | Greater ↦ λ o. (h.0, all-put k v es g h.1)
+    ] refl
+
+all-from_entries : (es : List (Key × Rows)) → AllByRecursion IsGood es → AllByRecursion IsGood (fin.entries (fin.from_entries {R = key_cmp} es))
+all-from_entries [] h = all_of_none _ (sym (fin.len-entries _) ∙ fin.len-empty key_cmp Rows)
+all-from_entries (e ∷ es) h =
+    subst (AllByRecursion IsGood) (sym (fin.entries-insert key_cmp_total (fin.from_entries es) e.0 e.1))
+    (all-put e.0 e.1 _ h.0 (all-from_entries es h.1))
+
+all_tables : (es : List (Key × Rows)) → AllByRecursion IsGood es → AllByRecursion IsLawfulTable (map table_of es)
+all_tables [] h = tt
+all_tables (e ∷ es) h = (h.0, all_tables es h.1)
+
+all_good : (ts : List Table) → AllByRecursion IsLawfulTable ts → AllByRecursion IsGood (fin.entries (grouped ts))
+unfolding grouped
+all_good ts h = all-from_entries _ (all_pairs ts ts h h)
+
+-- ---- the order of the keys
+
+first : (a b : Bool) → T (a && b) → T a
+first true b p = tt
+first false b p = p
+
+second : (a b : Bool) → T (a && b) → T b
+second true b p = p
+second false b p = absurd p
+
+less : (o : Ordering) → T (is_lt o) → o ≡ Less
+less Less p = refl
+less Equal p = absurd p
+less Greater p = absurd p
+
+all_above : (k : Key) (es : List (Key × Rows)) → T (below_all key_cmp k es) → AllByRecursion (λ q. key_cmp k q ≡ Less) (map (λ t. t.key) (map table_of es))
+all_above k [] h = tt
+all_above k (e ∷ es) h = (less _ (first _ _ h), all_above k es (second _ _ h))
+
+all_rise : (es : List (Key × Rows)) → T (is_sorted key_cmp es) → IsStrictlySortedBy key_cmp (map (λ t. t.key) (map table_of es))
+unfolding IsStrictlySortedBy
+all_rise [] h = tt
+all_rise (e ∷ es) h = (all_above e.0 es (first _ _ h), all_rise es (second _ _ h))
+
+-- lawful tables that are gathered are lawful, and their keys rise
+pub gathered_lawful : (ts : List Table) → AllByRecursion IsLawfulTable ts → AreLawful (gathered ts)
+unfolding gathered
+gathered_lawful ts h =
+    record { each = all_tables _ (all_good ts h); rising = all_rise _ (fin.entries_sorted (grouped ts)) }

@@ -1,10 +1,12 @@
 //! Tables, their keys and the order of keys.
 #![tactic(auto)]
 
+mod groups;
 mod key;
 mod table;
 mod tables;
 
+pub use groups::gather;
 pub use key::{Key, KeyEntry, key_order, key_order_is_total};
 pub use table::Table;
 pub use tables::Tables;

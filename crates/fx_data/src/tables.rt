@@ -10,7 +10,7 @@ use std::marker::Model;
 /// Lawful tables in the order of their keys, which differ. Contracts see the list of the tables.
 #[derive(Debug, Drop)]
 pub struct Tables {
-    items: List<Table>,
+    pub(crate) items: List<Table>,
 }
 
 impl Model for Tables {

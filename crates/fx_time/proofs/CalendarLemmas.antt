@@ -1,8 +1,8 @@
 -- The date that counting day by day comes to is the one of that day number.
-use Rattle.std.proofs.Common.{◌≡◌, ℕ, zero, suc, ◌+◌, ◌<◌, ◌≤◌, pos, ◌+ℤ◌, refl, inl, inr, arith, rules}
+use Rattle.std.proofs.Common.{◌≡◌, ℕ, zero, suc, ◌+◌, ◌<◌, ◌≤◌, ℤ, pos, negsuc, ◌+ℤ◌, ◌≤ℤ◌, unsigned_abs, refl, sym, subst, ◌∙◌, inl, inr, arith, rules}
 use Rattle.std.proofs.lemmas.Bool.Decides.{leb_tells}
 use Rattle.std.specs.Int.{IsInRange}
-use Rattle.jiff_core.specs.Calendar.{day_count, days_in_month}
+use Rattle.jiff_core.specs.Calendar.{day_count, days_in_month, IsDate}
 use Rattle.jiff_core.proofs.SignedLemmas.{signed_arith}
 use Rattle.jiff_core.proofs.CalendarLemmas.{day_count-next_month, day_count-next_year, day_count-day, day_count-day_of_year, day_count-later_year, day_count-end, day_count-last_of_year, days_in_month_bounds, days_from_civil-day_count}
 use Rattle.jiff_core.proofs.MarchLemmas.{day_count-early}
@@ -60,8 +60,8 @@ unfolding date_after
 date_after-is zero = record { month = search rules; day = search rules; count = day_zero }
 date_after-is (suc n) = next_is n (date_after n) (date_after-is n)
 
--- so few days end long before the year 10,000
-year_small : (y m d n : ℕ) → 1 ≤ d → day_count (pos y) m d ≡ n + 3_652_425 → n < 1_000_000 → y ≤ 9999
+-- so few days end before the year 10,000
+pub year_small : (y m d n : ℕ) → 1 ≤ d → day_count (pos y) m d ≡ n + 3_652_425 → n < 3_652_425 → y ≤ 9999
 year_small y m d n first count small = elim (leb_tells y 9999) [
   | inl low ↦ low.1
   | inr high ↦
@@ -74,7 +74,7 @@ year_small y m d n first count small = elim (leb_tells y 9999) [
 ]
 
 -- the day number of a date of the library is the one to which counting comes
-pub date_after-same : (n : ℕ) (d : Civil) → n < 1_000_000 → epoch_day d +ℤ pos 719_528 ≡ pos n
+pub date_after-same : (n : ℕ) (d : Civil) → n < 3_652_425 → epoch_day d +ℤ pos 719_528 ≡ pos n
     → (d.year ≡ pos (date_after n).year) × (d.month ≡ (date_after n).month) × (d.day ≡ (date_after n).day)
 date_after-same n d small e =
     let is = date_after-is n in
@@ -89,3 +89,62 @@ date_after-same n d small e =
     } in
     let count = is.count in
     epoch_day_injective d here (omega (arith, signed_arith, days_from_civil-day_count (pos (date_after n).year) (date_after n).month (date_after n).day))
+
+pub nonneg_abs : (z : ℤ) → pos 0 ≤ℤ z → pos (unsigned_abs z) ≡ z
+nonneg_abs (pos n) h = refl
+nonneg_abs (negsuc n) h = absurd (omega (arith, signed_arith))
+
+-- the day of a date of the year 0 or later is no less than the first of that year
+count_low : (y m d : ℕ) → 1 ≤ d → 3_652_425 ≤ day_count (pos y) m d
+count_low y m d first =
+    let place = day_count-day_of_year (pos y) m d first in
+    let zero = day_zero in
+    elim (leb_tells 1 y) [
+      | inl later ↦
+          let above = later.1 in
+          let more = day_count-later_year (pos 0) (pos y) (omega (arith, signed_arith)) (omega (arith, signed_arith)) in
+          omega arith
+      | inr none ↦
+          let same : y ≡ 0 = omega (arith, none.1) in
+          let here = rw same at place in
+          rw same (omega arith)
+    ]
+
+module _ (d : Civil) (y m k : ℕ) (year : d.year ≡ pos y) (month : d.month ≡ m) (day : d.day ≡ k) where
+  count_is : epoch_day d +ℤ pos 4_371_953 ≡ pos (day_count (pos y) m k)
+  count_is =
+      let count = days_from_civil-day_count d.year d.month d.day in
+      let same : day_count d.year d.month d.day ≡ day_count (pos y) m k = rw (year, month, day) refl in
+      omega (arith, signed_arith)
+
+  -- its days since the year 0 are a number
+  pub day_low : pos 0 ≤ℤ (epoch_day d +ℤ pos 719_528)
+  day_low =
+      let count = count_is in
+      let low = count_low y m k (omega (arith, d.day_in.0)) in
+      omega (arith, signed_arith)
+
+  -- to which counting comes
+  pub day_found : (n : ℕ) → n < 3_652_425 → epoch_day d +ℤ pos 719_528 ≡ pos n → date_after n ≡ record { year = y; month = m; day = k }
+  day_found n small e =
+      let same = date_after-same n d small e in
+      let years : (date_after n).year ≡ y = omega (arith, signed_arith, same.0) in
+      let months = sym same.1 ∙ month in
+      let days = sym same.2 ∙ day in
+      λ i. record { year = years i; month = months i; day = days i }
+
+  -- and no other
+  pub day_only : (n : ℕ) → date_after n ≡ record { year = y; month = m; day = k } → epoch_day d +ℤ pos 719_528 ≡ pos n
+  day_only n e =
+      let is = subst (λ x. IsDay n x) e (date_after-is n) in
+      let here = is.count in
+      let count = count_is in
+      omega (arith, signed_arith)
+
+-- a date to which counting comes is one of the library
+pub is_date : (n y m k : ℕ) → y < 10_000 → date_after n ≡ record { year = y; month = m; day = k } → IsDate (pos y) (pos m) (pos k)
+is_date n y m k small e =
+    let is = subst (λ x. IsDay n x) e (date_after-is n) in
+    let month = is.month in
+    let day = is.day in
+    ((omega (arith, signed_arith), omega (arith, signed_arith)), (omega (arith, signed_arith), omega (arith, signed_arith)), (omega (arith, signed_arith), omega (arith, signed_arith)))

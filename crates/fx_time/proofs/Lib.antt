@@ -1,2 +1,4 @@
 pub mod CalendarLemmas
+pub mod FrontLemmas
 pub mod PrintLemmas
+pub mod ReadLemmas

@@ -1,5 +1,5 @@
 -- What the library prints for an instant is the text of the instant.
-use Rattle.std.proofs.Common.{◌≡◌, ℕ, ◌/◌, ◌%◌, ◌<◌, [], ◌∷◌, ◌++◌, None, false, ℤ, pos, negsuc, ◌+ℤ◌, ◌≤ℤ◌, unsigned_abs, FitsSigned, w64, refl, sym, ap, ◌∙◌, arith}
+use Rattle.std.proofs.Common.{◌≡◌, ℕ, ◌/◌, ◌%◌, ◌<◌, [], ◌∷◌, ◌++◌, None, false, ℤ, pos, ◌+ℤ◌, ◌≤ℤ◌, unsigned_abs, FitsSigned, w64, refl, sym, ap, ◌∙◌, arith}
 use Rattle.std.specs.Int.{int_div_euclid, int_rem_euclid}
 use Rattle.jiff_core.specs.declared.civil.datetime.DateTime.{DateTime}
 use Rattle.jiff_core.specs.Date.{epoch_day}
@@ -10,7 +10,7 @@ use Rattle.jiff_core.proofs.DateTimeLemmas.{civil_nanos-parts, epoch_day-civil_n
 use Rattle.jiff_fmt.specs.Text.{datetime_text}
 use Rattle.fx_time.specs.Calendar.{nanos_of_day}
 use Rattle.fx_time.specs.Time.{time_text}
-use Rattle.fx_time.proofs.CalendarLemmas.{date_after-same}
+use Rattle.fx_time.proofs.CalendarLemmas.{date_after-same, nonneg_abs}
 
 -- the days from the year 0 to an instant
 abbrev days : ℤ → ℕ
@@ -20,11 +20,7 @@ days t = unsigned_abs (int_div_euclid t (pos nanos_of_day) +ℤ pos 719_528)
 abbrev nanos : ℤ → ℕ
 nanos t = unsigned_abs (int_rem_euclid t (pos nanos_of_day))
 
-nonneg_abs : (z : ℤ) → pos 0 ≤ℤ z → pos (unsigned_abs z) ≡ z
-nonneg_abs (pos n) h = refl
-nonneg_abs (negsuc n) h = absurd (omega (arith, signed_arith))
-
-days_is : (t : ℤ) → FitsSigned w64 t → (pos (days t) ≡ int_div_euclid t (pos nanos_of_day) +ℤ pos 719_528) × (days t < 1_000_000)
+days_is : (t : ℤ) → FitsSigned w64 t → (pos (days t) ≡ int_div_euclid t (pos nanos_of_day) +ℤ pos 719_528) × (days t < 3_652_425)
 days_is t f =
     let parts = int_div_euclid-parts t nanos_of_day (omega arith) in
     let low : pos 0 ≤ℤ (int_div_euclid t (pos nanos_of_day) +ℤ pos 719_528) = omega (arith, signed_arith, f) in

@@ -1,2 +1,3 @@
 pub mod Calendar
+pub mod Front
 pub mod Time

@@ -1,8 +1,11 @@
 //! Times as texts and as numbers: nanoseconds since 1970-01-01T00:00:00Z.
 #![tactic(auto)]
 
+mod front;
 mod print;
+mod read;
 mod span;
 
 pub use print::{print_time, push_time};
+pub use read::read_time;
 pub use span::Span;

@@ -9,6 +9,7 @@ use Rattle.std.specs.Cmp.Lexicographic.{nat_list_cmp_total}
 use Rattle.std.specs.FinMap.{IsAntisymmetric, nat_cmp-IsAntisymmetric, int_cmp-IsAntisymmetric, slice_cmp-IsAntisymmetric}
 use Rattle.fx_base.specs.Text.{text_cmp}
 use Rattle.fx_value.specs.Scalar.{rank, scalar_cmp}
+use Rattle.fx_value.specs.contracts.scalar.ScalarOrd.TheImpl.{cmp-value}
 use Rattle.fx_value.specs.declared.scalar.Scalar.{Scalar}
 use Rattle.fx_value.specs.declared.scalar.Scalar.TheVariants as scalar
 use Rattle.fx_value.specs.declared.scalar.Scalar.TheVariants.{Null, Int, Text, Time}
@@ -105,3 +106,31 @@ scalar_same (Time a) (scalar.Bool b) e = cc
 scalar_same (Time a) (Int b) e = cc
 scalar_same (Time a) (Text b) e = cc
 scalar_same (Time a) (Time b) e = ap Time (int_cmp-IsAntisymmetric a b e)
+
+-- the order that is derived is this one
+pub derived_order : (a b : Scalar) → cmp-value.it a b ≡ scalar_cmp a b
+derived_order Null Null = refl
+derived_order Null (scalar.Bool b) = refl
+derived_order Null (Int b) = refl
+derived_order Null (Text b) = refl
+derived_order Null (Time b) = refl
+derived_order (scalar.Bool a) Null = refl
+derived_order (scalar.Bool a) (scalar.Bool b) = refl
+derived_order (scalar.Bool a) (Int b) = refl
+derived_order (scalar.Bool a) (Text b) = refl
+derived_order (scalar.Bool a) (Time b) = refl
+derived_order (Int a) Null = refl
+derived_order (Int a) (scalar.Bool b) = refl
+derived_order (Int a) (Int b) = refl
+derived_order (Int a) (Text b) = refl
+derived_order (Int a) (Time b) = refl
+derived_order (Text a) Null = refl
+derived_order (Text a) (scalar.Bool b) = refl
+derived_order (Text a) (Int b) = refl
+derived_order (Text a) (Text b) = refl
+derived_order (Text a) (Time b) = refl
+derived_order (Time a) Null = refl
+derived_order (Time a) (scalar.Bool b) = refl
+derived_order (Time a) (Int b) = refl
+derived_order (Time a) (Text b) = refl
+derived_order (Time a) (Time b) = refl

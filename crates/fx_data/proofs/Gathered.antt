@@ -1,0 +1,157 @@
+-- Tables gathered under their keys.
+use Rattle.std.proofs.Common.{◌≡◌, Bool, true, false, T, List, [], ◌∷◌, ◌++◌, map, refl, sym, ap, subst, ◌∙◌, append_assoc}
+use Rattle.std.proofs.lemmas.List.{append-nil}
+use Rattle.std.specs.Prelude.{cond, ◌||◌, ◌&&◌, Option, None, Some}
+use Rattle.std.specs.declared.cmp.Ordering.TheVariants.{Less}
+use Rattle.std.specs.Ordering.{eq_by_cmp, is_lt}
+use Rattle.std.specs.Option.{unwrap_or}
+use Rattle.std.specs.List.{AllByRecursion, filter, flat_map, list_any}
+use Rattle.std.specs.List.Sorted.{IsStrictlySortedBy}
+use Rattle.std.specs.Map.{keys_of, lookup}
+use Rattle.std.specs.BTreeMap.{is_at}
+use Rattle.std.specs.Cmp.{eq_by_cmp_equiv, Equal-is}
+use Rattle.std.specs.FinMap as fin
+use Rattle.std.specs.FinMap.{FinMap}
+use Rattle.std.specs.FinMap.Entries.{find, is_sorted, below_all, same_entries}
+use Rattle.fx_base.specs.Text.{text_cmp}
+use Rattle.fx_value.specs.declared.scalar.Scalar.{Scalar}
+use Rattle.fx_data.specs.declared.key.Key.{Key}
+use Rattle.fx_data.specs.declared.table.Table.{Table}
+use Rattle.fx_data.specs.Gathered.{rows_with, grouped, gathered, table_of}
+use Rattle.fx_data.specs.Key.{key_cmp}
+use Rattle.fx_data.proofs.Keys.{key_cmp_total, key_same}
+
+abbrev pub Rows : Type 0
+Rows = List (FinMap text_cmp Scalar)
+
+-- a map that lost a key and took it again with its rows and more has more rows there, and elsewhere is as it was
+pub added : (old : Key → Option Rows) (key k : Key) (new mid : Option Rows) (joined rows : Rows)
+    → new ≡ cond (eq_by_cmp key_cmp key k) (Some joined) mid → mid ≡ cond (eq_by_cmp key_cmp key k) None (old k)
+    → joined ≡ unwrap_or (old key) [] ++ rows
+    → new ≡ cond (eq_by_cmp key_cmp k key) (Some (unwrap_or (old k) [] ++ rows)) (old k)
+added old key k new mid joined rows a b j =
+    elim (eq_by_cmp key_cmp key k) as (λ t. eq_by_cmp key_cmp key k ≡ t → new ≡ cond t (Some joined) mid → mid ≡ cond t None (old k)
+    → new ≡ cond t (Some (unwrap_or (old k) [] ++ rows)) (old k)) [
+      | true ↦ λ t a b. a ∙ ap Some (j ∙ ap (λ q. unwrap_or (old q) [] ++ rows) (key_same key k ((Equal-is _).0 t)))
+      | false ↦ λ t a b. a ∙ b
+    ] refl a b ∙ ap (λ t. cond t (Some (unwrap_or (old k) [] ++ rows)) (old k)) ((eq_by_cmp_equiv key_cmp_total).symm key k)
+
+-- whether a table has this key
+has : Key → List Table → Bool
+has k = list_any (λ t. eq_by_cmp key_cmp k t.key)
+
+-- the rows under a key, where a table has it
+rows_at : Key → List Table → Option Rows
+rows_at k ts = cond (has k ts) (Some (rows_with k ts)) None
+
+find-by_key : (f : Key → Rows) (k : Key) (us : List Table) → find key_cmp k (map (λ t. (t.key, f t.key)) us) ≡ cond (has k us) (Some (f k)) None
+unfolding has
+find-by_key f k [] = refl
+find-by_key f k (u ∷ us) =
+    elim (eq_by_cmp key_cmp k u.key) as (λ t. eq_by_cmp key_cmp k u.key ≡ t
+    → cond t (Some (f u.key)) (find key_cmp k (map (λ t. (t.key, f t.key)) us)) ≡ cond (t || has k us) (Some (f k)) None) [
+      | true ↦ λ t. ap (λ q. Some (f q)) (sym (key_same k u.key ((Equal-is _).0 t)))
+      | false ↦ λ t. find-by_key f k us
+    ] refl
+
+get-grouped : (k : Key) (ts : List Table) → fin.get (grouped ts) k ≡ rows_at k ts
+unfolding grouped rows_at
+get-grouped k ts = fin.get-from_entries key_cmp_total _ k ∙ find-by_key (λ q. rows_with q ts) k ts
+
+-- no rows stand under a key that no table has
+none_with : (k : Key) (ts : List Table) → has k ts ≡ false → rows_with k ts ≡ []
+unfolding has
+none_with k [] h = refl
+none_with k (t ∷ ts) h =
+    elim (eq_by_cmp key_cmp k t.key) as (λ b. (b || has k ts) ≡ false → flat_map (λ u. u.rows) (cond b (t ∷ filter (λ u. eq_by_cmp key_cmp k u.key) ts) (filter (λ u. eq_by_cmp key_cmp k u.key) ts)) ≡ []) [
+      | true ↦ λ h. cc
+      | false ↦ λ h. none_with k ts h
+    ] h
+
+unwrapped : (k : Key) (ts : List Table) → unwrap_or (rows_at k ts) [] ≡ rows_with k ts
+unfolding rows_at
+unwrapped k ts =
+    elim (has k ts) as (λ b. has k ts ≡ b → unwrap_or (cond b (Some (rows_with k ts)) None) [] ≡ rows_with k ts) [
+      | true ↦ λ h. refl
+      | false ↦ λ h. sym (none_with k ts h)
+    ] refl
+
+has-append : (k : Key) (ts : List Table) (t : Table) → has k (ts ++ t ∷ []) ≡ cond (eq_by_cmp key_cmp k t.key) true (has k ts)
+unfolding has
+has-append k [] t =
+    elim (eq_by_cmp key_cmp k t.key) as (λ b. (b || false) ≡ cond b true false) [ true ↦ refl | false ↦ refl ]
+has-append k (u ∷ ts) t =
+    ap (λ b. eq_by_cmp key_cmp k u.key || b) (has-append k ts t)
+    ∙ elim (eq_by_cmp key_cmp k u.key) as (λ a. (a || cond (eq_by_cmp key_cmp k t.key) true (has k ts)) ≡ cond (eq_by_cmp key_cmp k t.key) true (a || has k ts)) [
+      | true ↦ elim (eq_by_cmp key_cmp k t.key) as (λ b. true ≡ cond b true true) [ true ↦ refl | false ↦ refl ]
+      | false ↦ refl
+    ]
+
+rows_with-append : (k : Key) (ts : List Table) (t : Table)
+    → rows_with k (ts ++ t ∷ []) ≡ cond (eq_by_cmp key_cmp k t.key) (rows_with k ts ++ t.rows) (rows_with k ts)
+rows_with-append k [] t =
+    elim (eq_by_cmp key_cmp k t.key) as (λ b. flat_map (λ u. u.rows) (cond b (t ∷ []) []) ≡ cond b t.rows []) [
+      | true ↦ append-nil t.rows
+      | false ↦ refl
+    ]
+rows_with-append k (u ∷ ts) t =
+    elim (eq_by_cmp key_cmp k u.key) as (λ a. flat_map (λ v. v.rows) (cond a (u ∷ filter (λ v. eq_by_cmp key_cmp k v.key) (ts ++ t ∷ [])) (filter (λ v. eq_by_cmp key_cmp k v.key) (ts ++ t ∷ [])))
+    ≡ cond (eq_by_cmp key_cmp k t.key) (flat_map (λ v. v.rows) (cond a (u ∷ filter (λ v. eq_by_cmp key_cmp k v.key) ts) (filter (λ v. eq_by_cmp key_cmp k v.key) ts)) ++ t.rows)
+    (flat_map (λ v. v.rows) (cond a (u ∷ filter (λ v. eq_by_cmp key_cmp k v.key) ts) (filter (λ v. eq_by_cmp key_cmp k v.key) ts)))) [
+      | true ↦ ap (λ rs. u.rows ++ rs) (rows_with-append k ts t)
+          ∙ elim (eq_by_cmp key_cmp k t.key) as (λ b. u.rows ++ cond b (rows_with k ts ++ t.rows) (rows_with k ts) ≡ cond b ((u.rows ++ rows_with k ts) ++ t.rows) (u.rows ++ rows_with k ts)) [
+            | true ↦ sym (append_assoc u.rows (rows_with k ts) t.rows)
+            | false ↦ refl
+          ]
+      | false ↦ rows_with-append k ts t
+    ]
+
+rows_at-append : (k : Key) (ts : List Table) (t : Table)
+    → rows_at k (ts ++ t ∷ []) ≡ cond (eq_by_cmp key_cmp k t.key) (Some (unwrap_or (rows_at k ts) [] ++ t.rows)) (rows_at k ts)
+unfolding rows_at
+rows_at-append k ts t =
+    let whole : rows_at k (ts ++ t ∷ []) ≡ cond (cond (eq_by_cmp key_cmp k t.key) true (has k ts)) (Some (cond (eq_by_cmp key_cmp k t.key) (rows_with k ts ++ t.rows) (rows_with k ts))) None
+    = λ i. cond (has-append k ts t i) (Some (rows_with-append k ts t i)) None in
+    whole ∙ elim (eq_by_cmp key_cmp k t.key) as (λ b. cond (cond b true (has k ts)) (Some (cond b (rows_with k ts ++ t.rows) (rows_with k ts))) None ≡ cond b (Some (unwrap_or (rows_at k ts) [] ++ t.rows)) (rows_at k ts)) [
+      | true ↦ ap (λ (rs : Rows). Some (rs ++ t.rows)) (sym (unwrapped k ts))
+      | false ↦ refl
+    ]
+
+-- one more table puts its rows behind those under its key
+pub get-grouped-append : (k : Key) (ts : List Table) (t : Table)
+    → fin.get (grouped (ts ++ t ∷ [])) k ≡ cond (eq_by_cmp key_cmp k t.key) (Some (unwrap_or (fin.get (grouped ts) k) [] ++ t.rows)) (fin.get (grouped ts) k)
+get-grouped-append k ts t =
+    get-grouped k (ts ++ t ∷ []) ∙ rows_at-append k ts t
+    ∙ ap (λ o. cond (eq_by_cmp key_cmp k t.key) (Some (unwrap_or o [] ++ t.rows)) o) (sym (get-grouped k ts))
+
+-- ---- as lists in the order of the keys
+
+lookup-find : (k : Key) (es : List (Key × Rows)) → lookup (is_at (key_cmp k)) es ≡ find key_cmp k es
+lookup-find k [] = refl
+lookup-find k (e ∷ es) = ap (cond (eq_by_cmp key_cmp k e.0) (Some e.1)) (lookup-find k es)
+
+both : (a b : Bool) → T a → T b → T (a && b)
+both true b p q = q
+both false b p q = p
+
+below-keys : (k : Key) (es : List (Key × Rows)) → AllByRecursion (λ q. key_cmp k q ≡ Less) (keys_of es) → T (below_all key_cmp k es)
+below-keys k [] h = tt
+below-keys k (e ∷ es) h = both _ _ (subst (λ o. T (is_lt o)) (sym h.0) tt) (below-keys k es h.1)
+
+sorted-keys : (es : List (Key × Rows)) → IsStrictlySortedBy key_cmp (keys_of es) → T (is_sorted key_cmp es)
+unfolding IsStrictlySortedBy
+sorted-keys [] h = tt
+sorted-keys (e ∷ es) h = both _ _ (below-keys e.0 es h.0) (sorted-keys es h.1)
+
+-- entries that answer as the groups do are theirs
+pub entries_are : (es : List (Key × Rows)) (ts : List Table) → IsStrictlySortedBy key_cmp (keys_of es)
+    → ((k : Key) → lookup (is_at (key_cmp k)) es ≡ fin.get (grouped ts) k) → map table_of es ≡ gathered ts
+unfolding gathered
+entries_are es ts sorted answers =
+    ap (map table_of) (same_entries key_cmp key_cmp_total key_same es (fin.entries (grouped ts)) (sorted-keys es sorted) (fin.entries_sorted (grouped ts))
+    (λ k. sym (lookup-find k es) ∙ answers k ∙ fin.get-entries (grouped ts) k))
+
+-- no tables make no groups
+pub get-grouped-none : (es : List (Key × Rows)) (k : Key) → es ≡ [] → lookup (is_at (key_cmp k)) es ≡ fin.get (grouped []) k
+unfolding rows_at has
+get-grouped-none es k none = ap (lookup (is_at (key_cmp k))) none ∙ sym (get-grouped k [])
