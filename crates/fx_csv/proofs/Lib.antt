@@ -1,3 +1,7 @@
+pub mod BlockSteps
 pub mod ColumnKinds
 pub mod Inserted
+pub mod LawfulRows
+pub mod Numbered
 pub mod RecordBytes
+pub mod Steps

@@ -1,7 +1,9 @@
 pub mod Cells
 pub mod Columns
+pub mod Heads
 pub mod Lines
 pub mod Printed
+pub mod Rows
 pub mod Records
 pub mod Runs
 pub mod Shapes

@@ -37,8 +37,8 @@ abbrev pub key_labels : Table → List (List ℕ)
 key_labels t = map (λ e. e.label) t.key.entries
 
 -- the labels of the key and of the rows, each once
-abbrev pub columns : Table → List (List ℕ)
-columns t = fold (insert_key column_cmp) [] (key_labels t ++ flat_map map.keys t.rows)
+abbrev pub column_labels : Table → List (List ℕ)
+column_labels t = fold (insert_key column_cmp) [] (key_labels t ++ flat_map map.keys t.rows)
 
 -- the value of a label that the key pins
 abbrev pub pinned_value : List KeyEntry → List ℕ → Option Scalar
@@ -65,12 +65,12 @@ same_labels = pointwise same_text
 
 -- two tables may stand in one block as far as their labels go
 abbrev pub same_shape : Table → Table → Bool
-same_shape t u = same_labels (key_labels t) (key_labels u) && same_labels (columns t) (columns u)
+same_shape t u = same_labels (key_labels t) (key_labels u) && same_labels (column_labels t) (column_labels u)
 
 abbrev pub is_block : List Table → Bool
 is_block [] = true
 is_block (t ∷ rest) =
-    list_all (same_shape t) rest && list_all (λ label. is_one_kind (kinds label (t ∷ rest))) (columns t)
+    list_all (same_shape t) rest && list_all (λ label. is_one_kind (kinds label (t ∷ rest))) (column_labels t)
 
 abbrev pub is_key_label : Table → List ℕ → Bool
 is_key_label t label = list_any (λ e. same_text e.label label) t.key.entries
@@ -79,14 +79,14 @@ is_key_label t label = list_any (λ e. same_text e.label label) t.key.entries
 abbrev pub head_records : List ℕ → List Table → List (List (List ℕ))
 head_records name [] = []
 head_records name (t ∷ rest) =
-    (codes "#datatype" ∷ codes "string" ∷ codes "long" ∷ map (λ c. datatype (slice_get (kinds c (t ∷ rest)) 0)) (columns t))
-    ∷ (codes "#group" ∷ codes "false" ∷ codes "false" ∷ map (λ c. bool_text (is_key_label t c)) (columns t))
-    ∷ (codes "#default" ∷ name ∷ [] ∷ map (λ c. []) (columns t))
-    ∷ ([] ∷ codes "result" ∷ codes "table" ∷ columns t)
+    (codes "#datatype" ∷ codes "string" ∷ codes "long" ∷ map (λ c. datatype (slice_get (kinds c (t ∷ rest)) 0)) (column_labels t))
+    ∷ (codes "#group" ∷ codes "false" ∷ codes "false" ∷ map (λ c. bool_text (is_key_label t c)) (column_labels t))
+    ∷ (codes "#default" ∷ name ∷ [] ∷ map (λ c. []) (column_labels t))
+    ∷ ([] ∷ codes "result" ∷ codes "table" ∷ column_labels t)
     ∷ []
 
 abbrev pub row_record : ℕ → Table → map.FinMap text_cmp Scalar → List (List ℕ)
-row_record number t row = [] ∷ [] ∷ decimal number ∷ map (λ c. scalar_text (value_at t c row)) (columns t)
+row_record number t row = [] ∷ [] ∷ decimal number ∷ map (λ c. scalar_text (value_at t c row)) (column_labels t)
 
 -- the rows of tables that are numbered from here on
 abbrev pub row_records : ℕ → List Table → List (List (List ℕ))

@@ -1,10 +1,17 @@
 //! Annotated CSV: the tables of a yield as the bytes that a run writes.
 #![tactic(auto)]
 
+mod block;
+mod cell;
 mod column;
+mod head;
 mod kind;
 mod line;
 mod name;
 mod names;
+mod print;
+mod rows;
 mod text;
 mod writer;
+
+pub use print::{print_yield, write_yield};

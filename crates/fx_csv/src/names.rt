@@ -4,7 +4,7 @@ ghost use Rattle.std.specs.FinMap as map;
 ghost use Rattle.std.specs.List.{flat_map, fold};
 ghost use Rattle.std.specs.BTreeSet.{insert_key};
 ghost use Rattle.fx_csv.specs.Columns.{column_cmp};
-ghost use Rattle.fx_csv.specs.Printed.{columns, key_labels};
+ghost use Rattle.fx_csv.specs.Printed.{column_labels, key_labels};
 
 use crate::name::ColumnName;
 use fx_base::Memory;
@@ -15,7 +15,7 @@ use std::collections::BTreeSet;
 
 /// The labels of a table's key and rows, each once.
 pub(crate) fn column_names(alloc: Global, table: &Table) -> Result<BTreeSet<ColumnName>, Memory>
-    ensures { IfOk result (λ s. s.keys ≡ columns table.now) }
+    ensures { IfOk result (λ s. s.keys ≡ column_labels table.now) }
 {
     let mut names = key_names(alloc, table.key.entries.as_slice())?;
     add_rows(alloc, &mut names, table.rows.as_slice())?;

@@ -1,10 +1,11 @@
 //! Records behind bytes, through the writer of the crate `csv`.
 ghost use Rattle.std.specs.Prelude.{◌≡◌, ℕ, ◌≤◌, List, ◌++◌, length, IfOk, OnOk};
-ghost use Rattle.csv.specs.Records.{fields_of};
+ghost use Rattle.fx_csv.specs.Lines.{HasFields};
 ghost use Rattle.fx_csv.specs.Records.{record_bytes};
 ghost use Rattle.fx_csv.specs.Writers.{Holds};
 
-use csv::{ByteRecord, Terminator, Writer, WriterBuilder};
+use crate::line::Line;
+use csv::{Terminator, Writer, WriterBuilder};
 use fx_base::Memory;
 
 /// A writer whose records follow these bytes.
@@ -17,11 +18,11 @@ pub(crate) fn start(out: Vec<u8>) -> Writer<Vec<u8>>
 }
 
 /// Writes a record of two or more fields.
-pub(crate) fn put_record(writer: &mut Writer<Vec<u8>>, line: &ByteRecord) -> Result<(), Memory>
-    requires { 2 ≤ length (fields_of line.now) }
-    ensures { (bytes : List ℕ) → Holds writer.old bytes → OnOk result (Holds writer.new (bytes ++ record_bytes (fields_of line.now))) }
+pub(crate) fn put_line(writer: &mut Writer<Vec<u8>>, line: &Line) -> Result<(), Memory>
+    ensures { (bytes : List ℕ) (all : List (List ℕ)) → Holds writer.old bytes → HasFields line.now all → 2 ≤ length all
+        → OnOk result (Holds writer.new (bytes ++ record_bytes all)) }
 {
-    let Ok(()) = writer.write_byte_record(line) else {
+    let Ok(()) = writer.write_byte_record(&line.fields) else {
         return Err(Memory);
     };
     Ok(())

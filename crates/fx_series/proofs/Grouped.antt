@@ -182,3 +182,11 @@ module _ (stored : List StoredPoint) (s : StoredPoint) where
   -- the series of one more stored point are those before, with the point put
   pub grouped-push : grouped more ≡ put_into (grouped stored)
   grouped-push = put_either (is_named (id_of s) stored) refl
+
+-- the names of the series are the names of the points, each once
+pub names-grouped : (stored : List StoredPoint) → map (λ t. t.id) (grouped stored) ≡ first_seen (map id_of stored)
+names-grouped stored = names-map stored (first_seen (map id_of stored))
+  where
+    names-map : (stored : List StoredPoint) (ids : List SeriesId) → map (λ t. t.id) (map (series_of stored) ids) ≡ ids
+    names-map stored [] = refl
+    names-map stored (k ∷ rest) = ap (λ l. k ∷ l) (names-map stored rest)

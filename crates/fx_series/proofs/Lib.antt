@@ -1,4 +1,5 @@
 pub mod Between
+pub mod ByTime
 pub mod Entries
 pub mod Grouped
 pub mod MapPut

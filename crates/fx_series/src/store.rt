@@ -50,7 +50,6 @@ impl Store {
 
     /// Adds a bucket at the end; one that is there stays where it is.
     pub fn add_bucket(&mut self, name: &Text) -> Result<(), Memory>
-        requires { length self.old.buckets < 4294967295 }
         ensures ok { (buckets : List (List ℕ)) (stored : List StoredPoint) → StandsFor self.old buckets stored → OnOk result (StandsFor self.new (with_bucket buckets name.now) stored) }
         ensures err { OnErr result (self.new ≡ self.old) }
     {

@@ -1,4 +1,6 @@
+pub mod Own
 pub mod Place
 pub mod Row
 pub mod Scalar
 pub mod Slots
+pub mod Source

@@ -1,14 +1,31 @@
-ghost use Rattle.std.specs.Prelude.{◌≡◌, ◌↔◌, IfOk, IsTrue};
+ghost use Rattle.std.specs.Prelude.{◌≡◌, ◌↔◌, IfOk, IfSome, IsTrue};
 ghost use Rattle.std.specs.Option.{option_map};
 ghost use Rattle.std.specs.FinMap as map;
+<<<<<<< HEAD
 ghost use Rattle.fx_value.specs.Row.{shared};
 
 use crate::scalar::Scalar;
 use crate::slot::{Slot, have_same_labels, labels_in, place_of, shared_in, with_source};
+=======
+ghost use Rattle.fx_value.specs.Own.{source_of};
+ghost use Rattle.fx_value.specs.Row.{IsOnly};
+
+use crate::slot::{
+    Slot, have_same_labels, is_first_alone, is_second_alone, labels_in, place_of, with_source,
+    without_label,
+};
+>>>>>>> ae98ceaf9b74e326b7b26175e49bc690e98c17e5
 use crate::source::Source;
 use fx_base::{List, Memory, Text};
 use std::alloc::Global;
 use std::marker::Model;
+
+/// Which of its own values a row gives.
+#[derive(Clone, Copy)]
+pub(crate) enum OwnPlace {
+    First,
+    Second,
+}
 
 /// The labels of the rows of a table, with the values that all of them share. Contracts see the
 /// map from labels to sources.
@@ -83,5 +100,24 @@ impl Head {
         ensures { IsTrue result ↔ (map.keys self.now ≡ map.keys other.now) }
     {
         have_same_labels(&self.slots, &other.slots)
+    }
+
+    /// The head without this label.
+    pub fn without(&self, alloc: Global, label: &Text) -> Result<Head, Memory>
+        ensures { IfOk result (λ h. h ≡ map.remove self.now label.now) }
+    {
+        let slots = without_label(alloc, &self.slots, label)?;
+        Ok(Head { slots })
+    }
+
+    /// The own value of a row that this label has, if no other label has it.
+    pub(crate) fn own_place(&self, label: &Text) -> Option<OwnPlace>
+        ensures { IfSome result (λ own. IsOnly self.now label.now (source_of own)) }
+    {
+        match self.get(label) {
+            Some(Source::First) if is_first_alone(&self.slots, label) => Some(OwnPlace::First),
+            Some(Source::Second) if is_second_alone(&self.slots, label) => Some(OwnPlace::Second),
+            _ => None,
+        }
     }
 }

@@ -7,6 +7,8 @@ mod scalar;
 mod shape;
 mod slot;
 mod source;
+#[cfg(test)]
+mod tests;
 
 pub use head::Head;
 pub use row::Row;

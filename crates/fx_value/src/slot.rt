@@ -6,7 +6,12 @@ ghost use Rattle.fx_base.specs.Text.{text_cmp};
 ghost use Rattle.std.specs.List.{filter_map};
 ghost use Rattle.fx_value.specs.Row.{shared_cell};
 ghost use Rattle.fx_value.specs.Place.{StandsAt, BelongsAt};
+<<<<<<< HEAD
 ghost use Rattle.fx_value.specs.Slots.{entry_of, entries_of, labels_of};
+=======
+ghost use Rattle.fx_value.specs.Source.{is_first, is_second};
+ghost use Rattle.fx_value.specs.Slots.{entries_of, labels_of, is_alone, others};
+>>>>>>> ae98ceaf9b74e326b7b26175e49bc690e98c17e5
 
 use crate::scalar::Scalar;
 use crate::source::Source;
@@ -131,4 +136,35 @@ pub fn have_same_labels(slots: &Vec<Slot>, others: &Vec<Slot>) -> bool
         }
     }
     true
+}
+
+/// Whether no slot with another label has a row's first value as its source.
+pub fn is_first_alone(slots: &Vec<Slot>, label: &Text) -> bool
+    ensures { result ≡ is_alone is_first label.now slots.now.items }
+{
+    slots
+        .iter()
+        .all(|slot| !slot.source.is_first() || slot.label == *label)
+}
+
+/// Whether no slot with another label has a row's second value as its source.
+pub fn is_second_alone(slots: &Vec<Slot>, label: &Text) -> bool
+    ensures { result ≡ is_alone is_second label.now slots.now.items }
+{
+    slots
+        .iter()
+        .all(|slot| !slot.source.is_second() || slot.label == *label)
+}
+
+/// Copies of the slots with other labels.
+pub fn without_label(alloc: Global, slots: &Vec<Slot>, label: &Text) -> Result<Vec<Slot>, Memory>
+    ensures { IfOk result (λ v. v.items ≡ others label.now slots.now.items) }
+{
+    let mut kept = Vec::new(alloc);
+    for slot in slots {
+        if slot.label != *label {
+            kept.push(slot.copy()?)?;
+        }
+    }
+    Ok(kept)
 }

@@ -1,4 +1,5 @@
 ghost use Rattle.std.specs.Prelude.{◌≡◌, IfOk};
+ghost use Rattle.fx_value.specs.Source.{is_first, is_second};
 
 use crate::scalar::Scalar;
 use fx_base::Memory;
@@ -23,5 +24,17 @@ impl Source {
             Source::First => Ok(Source::First),
             Source::Second => Ok(Source::Second),
         }
+    }
+
+    pub fn is_first(&self) -> bool
+        ensures { result ≡ is_first self.now }
+    {
+        matches!(self, Source::First)
+    }
+
+    pub fn is_second(&self) -> bool
+        ensures { result ≡ is_second self.now }
+    {
+        matches!(self, Source::Second)
     }
 }
