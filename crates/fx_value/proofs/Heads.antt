@@ -1,15 +1,9 @@
 -- A head as the map of its slots.
-<<<<<<< HEAD
-use Rattle.std.proofs.Common.{◌≡◌, ℕ, Bool, T, List, [], ◌∷◌, map, length, get_or, take, ◌+◌, ◌<◌, ◌++◌, filter_map, refl, sym, ap, subst, ◌∙◌}
-use Rattle.std.specs.Prelude.{None, Some, IsTrue, ◌↔◌}
-use Rattle.std.specs.Cmp.Lexicographic.{pointwise, pointwise_decides, bytes_decides, nat_list_cmp_total}
-=======
-use Rattle.std.proofs.Common.{◌≡◌, ℕ, Bool, true, false, T, List, [], ◌∷◌, map, length, get_or, refl, sym, ap, subst, ◌∙◌}
+use Rattle.std.proofs.Common.{◌≡◌, ℕ, Bool, true, false, T, List, [], ◌∷◌, map, length, get_or, take, ◌+◌, ◌<◌, ◌++◌, filter_map, refl, sym, ap, subst, ◌∙◌}
 use Rattle.std.specs.Prelude.{cond, ◌&&◌, ◌||◌, not, Option, None, Some, IsTrue, ◌↔◌}
 use Rattle.std.specs.Cmp.Lexicographic.{texts_ties, pointwise, pointwise_decides, bytes_decides, nat_list_cmp_total}
 use Rattle.std.specs.Ordering.{eq_by_cmp, is_eq}
 use Rattle.std.specs.Cmp.{Equal-is, eq_by_cmp_equiv, alike_right}
->>>>>>> ae98ceaf9b74e326b7b26175e49bc690e98c17e5
 use Rattle.std.specs.FinMap as fin
 use Rattle.std.specs.FinMap.{FinMap}
 use Rattle.std.specs.FinMap.Entries.{find, find-where_key, put, where_key, is_sorted, is_sorted-put, is_sorted-where_key}
@@ -17,14 +11,10 @@ use Rattle.fx_base.specs.Text.{text_cmp, same_text}
 use Rattle.fx_value.specs.Row.{IsOnly}
 use Rattle.fx_value.proofs.Rows.{text_same}
 use Rattle.fx_value.specs.Place.{StandsAt, BelongsAt}
-<<<<<<< HEAD
 use Rattle.std.proofs.lemmas.List.{take_more, map-append}
 use Rattle.std.proofs.lemmas.List.Elements.{filter_map-append}
 use Rattle.fx_value.specs.Row.{shared_cell, shared}
-use Rattle.fx_value.specs.Slots.{entry_of, entries_of, labels_of, IsRising}
-=======
 use Rattle.fx_value.specs.Slots.{entry_of, entries_of, labels_of, is_alone, others, IsRising}
->>>>>>> ae98ceaf9b74e326b7b26175e49bc690e98c17e5
 use Rattle.fx_value.specs.declared.slot.Slot.{Slot}
 use Rattle.fx_value.specs.declared.source.Source.{Source}
 use Rattle.fx_value.proofs.Place.{find-at, find-in}
@@ -78,11 +68,6 @@ module _ (cs : List Slot) (head : FinMap text_cmp Source) (view : fin.from_sorte
         ∙ sym (fin.entries-insert nat_list_cmp_total (fin.from_sorted (entries_of cs)) k s))
         ∙ ap (λ m. fin.insert m k s) view
 
-<<<<<<< HEAD
--- one slot more
-pub shared_more : (cs : List Slot) (i : ℕ) (s : Slot) → i < length cs → s ≡ get_or cs i s → filter_map shared_cell (entries_of (take i cs)) ++ filter_map shared_cell (entry_of s ∷ []) ≡ filter_map shared_cell (entries_of (take (i + 1) cs))
-shared_more cs i s below is = rw (take_more cs i s below, ← is, map-append, filter_map-append) refl
-=======
 -- ---- what is asked of all slots
 
 first_so : (a b : Bool) → (a && b) ≡ true → a ≡ true
@@ -152,4 +137,9 @@ module _ (cs : List Slot) (head : FinMap text_cmp Source) (view : fin.from_sorte
         ∙ ap (λ (b : Bool). cond b None (find text_cmp q (entries_of cs))) ((eq_by_cmp_equiv nat_list_cmp_total).symm k q)
         ∙ ap (λ (o : Option Source). cond (eq_by_cmp text_cmp q k) None o) (sym (fin.get-from_sorted text_cmp (entries_of cs) q rising) ∙ ap (λ m. fin.get m q) view)
         ∙ sym (fin.get-remove nat_list_cmp_total head k q))
->>>>>>> ae98ceaf9b74e326b7b26175e49bc690e98c17e5
+
+-- ---- the cells that all rows share
+
+-- one slot more
+pub shared_more : (cs : List Slot) (i : ℕ) (s : Slot) → i < length cs → s ≡ get_or cs i s → filter_map shared_cell (entries_of (take i cs)) ++ filter_map shared_cell (entry_of s ∷ []) ≡ filter_map shared_cell (entries_of (take (i + 1) cs))
+shared_more cs i s below is = rw (take_more cs i s below, ← is, map-append, filter_map-append) refl

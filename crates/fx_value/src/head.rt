@@ -1,20 +1,15 @@
 ghost use Rattle.std.specs.Prelude.{◌≡◌, ◌↔◌, IfOk, IfSome, IsTrue};
 ghost use Rattle.std.specs.Option.{option_map};
 ghost use Rattle.std.specs.FinMap as map;
-<<<<<<< HEAD
-ghost use Rattle.fx_value.specs.Row.{shared};
+ghost use Rattle.fx_value.specs.Own.{source_of};
+ghost use Rattle.fx_value.specs.Row.{IsOnly, shared};
 
 use crate::scalar::Scalar;
-use crate::slot::{Slot, have_same_labels, labels_in, place_of, shared_in, with_source};
-=======
-ghost use Rattle.fx_value.specs.Own.{source_of};
-ghost use Rattle.fx_value.specs.Row.{IsOnly};
-
 use crate::slot::{
-    Slot, have_same_labels, is_first_alone, is_second_alone, labels_in, place_of, with_source,
+    Slot, have_same_labels, is_first_alone, is_second_alone, labels_in, place_of, shared_in,
+    with_source,
     without_label,
 };
->>>>>>> ae98ceaf9b74e326b7b26175e49bc690e98c17e5
 use crate::source::Source;
 use fx_base::{List, Memory, Text};
 use std::alloc::Global;

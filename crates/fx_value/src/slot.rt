@@ -1,4 +1,4 @@
-ghost use Rattle.std.specs.Prelude.{◌≡◌, [], ◌∷◌, ◌++◌, IfOk, OnOk, MatchResult};
+ghost use Rattle.std.specs.Prelude.{◌≡◌, OnOk, ◌++◌, ◌∷◌, [], IfOk, MatchResult};
 ghost use Rattle.std.specs.Cmp.Lexicographic.{pointwise};
 ghost use Rattle.fx_base.specs.Text.{same_text};
 ghost use Rattle.std.specs.FinMap.Entries.{put};
@@ -6,12 +6,8 @@ ghost use Rattle.fx_base.specs.Text.{text_cmp};
 ghost use Rattle.std.specs.List.{filter_map};
 ghost use Rattle.fx_value.specs.Row.{shared_cell};
 ghost use Rattle.fx_value.specs.Place.{StandsAt, BelongsAt};
-<<<<<<< HEAD
-ghost use Rattle.fx_value.specs.Slots.{entry_of, entries_of, labels_of};
-=======
 ghost use Rattle.fx_value.specs.Source.{is_first, is_second};
-ghost use Rattle.fx_value.specs.Slots.{entries_of, labels_of, is_alone, others};
->>>>>>> ae98ceaf9b74e326b7b26175e49bc690e98c17e5
+ghost use Rattle.fx_value.specs.Slots.{entry_of, entries_of, labels_of, is_alone, others};
 
 use crate::scalar::Scalar;
 use crate::source::Source;
