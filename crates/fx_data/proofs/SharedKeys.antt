@@ -15,7 +15,8 @@ use Rattle.fx_base.specs.Text.{text_cmp}
 use Rattle.fx_value.specs.declared.scalar.Scalar.{Scalar}
 use Rattle.fx_value.specs.declared.source.Source.{Source}
 use Rattle.fx_value.specs.declared.source.Source.TheVariants.{Fixed, First, Second}
-use Rattle.fx_value.specs.Row.{row_of, shared_cell, shared, value_at}
+use Rattle.fx_value.specs.Row.{row_of, shared_cell, shared}
+use Rattle.fx_value.specs.Source.{value_at}
 use Rattle.fx_value.proofs.Rows.{get-row_of}
 use Rattle.fx_data.specs.declared.key.KeyEntry.{KeyEntry}
 use Rattle.fx_data.specs.Shared.{column_entry, key_of}

@@ -6,9 +6,12 @@ mod cause;
 mod command;
 mod labels;
 mod load;
+mod message;
+mod outcome;
 mod script;
 mod source;
 
 pub use cause::LineCause;
 pub use command::Command;
+pub use outcome::Outcome;
 pub use script::Query;
