@@ -5,8 +5,8 @@ ghost use Rattle.fx_value.specs.Own.{source_of};
 ghost use Rattle.fx_value.specs.Row.{IsOnly};
 
 use crate::slot::{
-    Slot, have_same_labels, is_first_alone, is_second_alone, labels_in, place_of, with_source,
-    without_label,
+    Slot, are_same, have_same_labels, is_first_alone, is_second_alone, labels_in, place_of,
+    with_source, without_label,
 };
 use crate::source::Source;
 use fx_base::{List, Memory, Text};
@@ -86,6 +86,13 @@ impl Head {
         ensures { IsTrue result ↔ (map.keys self.now ≡ map.keys other.now) }
     {
         have_same_labels(&self.slots, &other.slots)
+    }
+
+    /// Whether the heads are the same; false says nothing.
+    pub(crate) fn is_same(&self, other: &Head) -> bool
+        ensures { IsTrue result → self.now ≡ other.now }
+    {
+        are_same(&self.slots, &other.slots)
     }
 
     /// The head without this label.
