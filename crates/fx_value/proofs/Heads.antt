@@ -1,5 +1,5 @@
 -- A head as the map of its slots.
-use Rattle.std.proofs.Common.{◌≡◌, ℕ, Bool, true, false, T, List, [], ◌∷◌, map, length, get_or, refl, sym, ap, subst, ◌∙◌}
+use Rattle.std.proofs.Common.{◌≡◌, ℕ, Bool, true, false, T, List, [], ◌∷◌, map, length, get_or, take, ◌+◌, ◌<◌, ◌++◌, filter_map, refl, sym, ap, subst, ◌∙◌}
 use Rattle.std.specs.Prelude.{cond, ◌&&◌, ◌||◌, not, Option, None, Some, IsTrue, ◌↔◌}
 use Rattle.std.specs.Cmp.Lexicographic.{texts_ties, pointwise, pointwise_decides, bytes_decides, nat_list_cmp_total}
 use Rattle.std.specs.Ordering.{eq_by_cmp, is_eq}
@@ -11,6 +11,9 @@ use Rattle.fx_base.specs.Text.{text_cmp, same_text}
 use Rattle.fx_value.specs.Row.{IsOnly}
 use Rattle.fx_value.proofs.Rows.{text_same}
 use Rattle.fx_value.specs.Place.{StandsAt, BelongsAt}
+use Rattle.std.proofs.lemmas.List.{take_more, map-append}
+use Rattle.std.proofs.lemmas.List.Elements.{filter_map-append}
+use Rattle.fx_value.specs.Row.{shared_cell, shared}
 use Rattle.fx_value.specs.Slots.{entry_of, entries_of, labels_of, is_alone, others, IsRising}
 use Rattle.fx_value.specs.declared.slot.Slot.{Slot}
 use Rattle.fx_value.specs.declared.source.Source.{Source}
@@ -36,6 +39,10 @@ module _ (cs : List Slot) (head : FinMap text_cmp Source) (view : fin.from_sorte
   pub labels_are : labels_of cs ≡ fin.keys head
   labels_are =
       sym (keys-entries_of cs) ∙ ap (map (λ e. e.0)) (sym (fin.entries-from_sorted text_cmp (entries_of cs) rising)) ∙ ap fin.keys view
+
+  -- the shared cells of the slots are the head's
+  pub shared_are : filter_map shared_cell (entries_of cs) ≡ shared head
+  shared_are = ap (filter_map shared_cell) (sym (fin.entries-from_sorted text_cmp (entries_of cs) rising) ∙ ap fin.entries view)
 
   -- the source in the slot at the place of a label is what the head answers
   pub get_at : (k : List ℕ) (i : ℕ) (s : Slot) → StandsAt text_cmp k (entries_of cs) i → s ≡ get_or cs i s → Some s.source ≡ fin.get head k
@@ -130,3 +137,9 @@ module _ (cs : List Slot) (head : FinMap text_cmp Source) (view : fin.from_sorte
         ∙ ap (λ (b : Bool). cond b None (find text_cmp q (entries_of cs))) ((eq_by_cmp_equiv nat_list_cmp_total).symm k q)
         ∙ ap (λ (o : Option Source). cond (eq_by_cmp text_cmp q k) None o) (sym (fin.get-from_sorted text_cmp (entries_of cs) q rising) ∙ ap (λ m. fin.get m q) view)
         ∙ sym (fin.get-remove nat_list_cmp_total head k q))
+
+-- ---- the cells that all rows share
+
+-- one slot more
+pub shared_more : (cs : List Slot) (i : ℕ) (s : Slot) → i < length cs → s ≡ get_or cs i s → filter_map shared_cell (entries_of (take i cs)) ++ filter_map shared_cell (entry_of s ∷ []) ≡ filter_map shared_cell (entries_of (take (i + 1) cs))
+shared_more cs i s below is = rw (take_more cs i s below, ← is, map-append, filter_map-append) refl

@@ -2,11 +2,12 @@ ghost use Rattle.std.specs.Prelude.{◌≡◌, ◌↔◌, IfOk, IfSome, IsTrue};
 ghost use Rattle.std.specs.Option.{option_map};
 ghost use Rattle.std.specs.FinMap as map;
 ghost use Rattle.fx_value.specs.Own.{source_of};
-ghost use Rattle.fx_value.specs.Row.{IsOnly};
+ghost use Rattle.fx_value.specs.Row.{IsOnly, shared};
 
+use crate::scalar::Scalar;
 use crate::slot::{
     Slot, are_same, have_same_labels, is_first_alone, is_second_alone, labels_in, place_of,
-    with_source, without_label,
+    shared_in, with_source, without_label,
 };
 use crate::source::Source;
 use fx_base::{List, Memory, Text};
@@ -79,6 +80,13 @@ impl Head {
         ensures { IfOk result (λ v. v ≡ map.keys self.now) }
     {
         labels_in(alloc, &self.slots)
+    }
+
+    /// The labels whose value all rows share, with that value, rising by bytes.
+    pub fn shared(&self, alloc: Global) -> Result<Vec<(Text, Scalar)>, Memory>
+        ensures { IfOk result (λ v. v.items ≡ shared self.now) }
+    {
+        shared_in(alloc, &self.slots)
     }
 
     /// Whether the heads have the same labels.

@@ -1,12 +1,15 @@
-ghost use Rattle.std.specs.Prelude.{◌≡◌, IfOk, IsTrue, MatchResult};
+ghost use Rattle.std.specs.Prelude.{◌≡◌, [], ◌∷◌, ◌++◌, IfOk, OnOk, IsTrue, MatchResult};
 ghost use Rattle.std.specs.Cmp.Lexicographic.{pointwise};
 ghost use Rattle.fx_base.specs.Text.{same_text};
 ghost use Rattle.std.specs.FinMap.Entries.{put};
 ghost use Rattle.fx_base.specs.Text.{text_cmp};
+ghost use Rattle.std.specs.List.{filter_map};
+ghost use Rattle.fx_value.specs.Row.{shared_cell};
 ghost use Rattle.fx_value.specs.Place.{StandsAt, BelongsAt};
 ghost use Rattle.fx_value.specs.Source.{is_first, is_second};
-ghost use Rattle.fx_value.specs.Slots.{entries_of, labels_of, is_alone, others};
+ghost use Rattle.fx_value.specs.Slots.{entry_of, entries_of, labels_of, is_alone, others};
 
+use crate::scalar::Scalar;
 use crate::source::Source;
 use fx_base::{List, Memory, Text};
 use std::alloc::Global;
@@ -33,6 +36,19 @@ impl Slot {
         ensures { IsTrue result → self.now ≡ other.now }
     {
         self.label == other.label && self.source.is_same(&other.source)
+    }
+
+    /// Adds the label and the value, where all rows share it.
+    fn share(&self, cells: &mut Vec<(Text, Scalar)>) -> Result<(), Memory>
+        ensures { OnOk result (cells.new.items ≡ cells.old.items ++ filter_map shared_cell (entry_of self.now ∷ [])) }
+    {
+        match &self.source {
+            Source::Fixed(value) => {
+                cells.push((self.label.copy()?, value.copy()?))?;
+                Ok(())
+            }
+            Source::First | Source::Second => Ok(()),
+        }
     }
 
     fn refill(&mut self, source: Source)
@@ -85,6 +101,17 @@ pub fn with_source(
         }
     }
     Ok(copies)
+}
+
+/// The labels of the slots whose value is shared, with that value, in their order.
+pub fn shared_in(alloc: Global, slots: &Vec<Slot>) -> Result<Vec<(Text, Scalar)>, Memory>
+    ensures { IfOk result (λ v. v.items ≡ filter_map shared_cell (entries_of slots.now.items)) }
+{
+    let mut cells = Vec::with_capacity(alloc, slots.len())?;
+    for slot in slots {
+        slot.share(&mut cells)?;
+    }
+    Ok(cells)
 }
 
 /// The labels of the slots, in their order.

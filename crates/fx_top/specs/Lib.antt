@@ -1,0 +1,6 @@
+pub mod Bytes
+pub mod Command
+pub mod Labels
+pub mod Load
+pub mod Run
+pub mod Script

@@ -1,0 +1,14 @@
+//! The top call: a command line, files and a moment in, annotated CSV or a named refusal out.
+#![tactic(auto)]
+
+mod bytes;
+mod cause;
+mod command;
+mod labels;
+mod load;
+mod script;
+mod source;
+
+pub use cause::LineCause;
+pub use command::Command;
+pub use script::Query;
