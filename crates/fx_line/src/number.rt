@@ -1,4 +1,4 @@
-ghost use Rattle.std.specs.Prelude.{◌≡◌, ◌-◌, ◌^◌, min, IfSome, IfNone, is_some};
+ghost use Rattle.std.specs.Prelude.{◌≡◌, ◌+◌, ◌-◌, ◌*◌, ◌^◌, min, IfSome, IfNone, is_some};
 ghost use Rattle.std.specs.List.{list_all};
 ghost use Rattle.fx_line.specs.Line.{Number, is_digit, is_digits, natural, number_of, is_int};
 ghost use Rattle.fx_line.specs.Parts.{IsNumber, cut_sign};
@@ -64,15 +64,28 @@ pub fn read_number(bytes: &[u8]) -> Option<NumberBytes<'_>>
     }
 }
 
-/// What digits say, or the greatest number of the type where they say more.
+/// Below this a number has room for another digit.
+const ROOMY: u64 = 1 << 60;
+
+/// The number with another digit, or the greatest of the type where that is less.
+fn with_digit(number: u64, digit: u8) -> u64
+    ensures { result ≡ min (10 * number + (digit - 48)) (2 ^ 64 - 1) }
+{
+    let digit = u64::from(digit.saturating_sub(b'0'));
+    if number < ROOMY {
+        10 * number + digit
+    } else {
+        number.saturating_mul(10).saturating_add(digit)
+    }
+}
+
+/// What digits say, or the greatest number of the type where that is less.
 fn natural(digits: &[u8]) -> u64
     ensures { result ≡ min (natural digits.now) (2 ^ 64 - 1) }
 {
-    let mut number: u64 = 0;
+    let mut number = 0;
     for digit in digits {
-        number = number
-            .saturating_mul(10)
-            .saturating_add(u64::from(digit.saturating_sub(b'0')));
+        number = with_digit(number, *digit);
     }
     number
 }

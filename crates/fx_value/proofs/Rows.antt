@@ -11,6 +11,9 @@ use Rattle.std.specs.FinMap.Entries.{find, is_sorted, below_all}
 use Rattle.fx_base.specs.Text.{text_cmp}
 use Rattle.fx_value.specs.Row.{filled, row_of, IsOnly}
 use Rattle.fx_value.specs.Source.{value_at}
+use Rattle.fx_value.specs.Change.{changed, changed_head}
+use Rattle.fx_value.specs.declared.change.Change.{Change}
+use Rattle.fx_value.specs.declared.change.Change.TheVariants.{Set, Remove}
 use Rattle.fx_value.specs.declared.scalar.Scalar.{Scalar}
 use Rattle.fx_value.specs.declared.source.Source.{Source}
 use Rattle.fx_value.specs.declared.source.Source.TheVariants.{Fixed, First, Second}
@@ -92,10 +95,6 @@ module _ (a b : Scalar) where
   row_with h g m k s view is =
       ap (λ x. row_of x a b) is ∙ row_of-insert h k s ∙ ap (λ n. fin.insert n k (value_at a b s)) view
 
-  -- the labels of a row are its head's
-  pub labels_are : (h : FinMap text_cmp Source) (m : FinMap text_cmp Scalar) → row_of h a b ≡ m → fin.keys h ≡ fin.keys m
-  labels_are h m view = sym (keys-row_of h) ∙ ap fin.keys view
-
   map_without : (t : Bool) (o : Option Source) → option_map (value_at a b) (cond t None o) ≡ cond t None (option_map (value_at a b) o)
   map_without true o = refl
   map_without false o = refl
@@ -109,6 +108,16 @@ module _ (a b : Scalar) where
       ∙ map_without (eq_by_cmp text_cmp q k) (fin.get h q)
       ∙ ap (λ o. cond (eq_by_cmp text_cmp q k) None o) (sym (get-row_of h q))
       ∙ sym (fin.get-remove nat_list_cmp_total (row_of h a b) k q))
+
+  -- to change the head is to change the row
+  pub row_changed : (change : Change) (h g : FinMap text_cmp Source) (m : FinMap text_cmp Scalar) → row_of h a b ≡ m
+      → g ≡ changed_head change h → row_of g a b ≡ changed change m
+  row_changed (Set label value) h g m view is = row_with h g m label (Fixed value) view is
+  row_changed (Remove label) h g m view is = ap (λ x. row_of x a b) is ∙ row_of-remove h label ∙ ap (λ n. fin.remove n label) view
+
+  -- the labels of a row are its head's
+  pub labels_are : (h : FinMap text_cmp Source) (m : FinMap text_cmp Scalar) → row_of h a b ≡ m → fin.keys h ≡ fin.keys m
+  labels_are h m view = sym (keys-row_of h) ∙ ap fin.keys view
 
 -- an own value that one label has alone: to write it is to give the label that value
 module _ (a b c d : Scalar) (s : Source) (others : (t : Source) → (t ≡ s → ⊥) → value_at c d t ≡ value_at a b t) where

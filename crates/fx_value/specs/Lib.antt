@@ -1,3 +1,4 @@
+pub mod Change
 pub mod Own
 pub mod Place
 pub mod Row

@@ -6,9 +6,8 @@ ghost use Rattle.fx_value.specs.Row.{IsOnly, shared};
 
 use crate::scalar::Scalar;
 use crate::slot::{
-    Slot, have_same_labels, is_first_alone, is_second_alone, labels_in, place_of, shared_in,
-    with_source,
-    without_label,
+    Slot, are_same, have_same_labels, is_first_alone, is_second_alone, labels_in, place_of,
+    shared_in, with_source, without_label,
 };
 use crate::source::Source;
 use fx_base::{List, Memory, Text};
@@ -95,6 +94,13 @@ impl Head {
         ensures { IsTrue result ↔ (map.keys self.now ≡ map.keys other.now) }
     {
         have_same_labels(&self.slots, &other.slots)
+    }
+
+    /// Whether the heads are the same; false says nothing.
+    pub(crate) fn is_same(&self, other: &Head) -> bool
+        ensures { IsTrue result → self.now ≡ other.now }
+    {
+        are_same(&self.slots, &other.slots)
     }
 
     /// The head without this label.

@@ -1,8 +1,10 @@
-ghost use Rattle.std.specs.Prelude.{◌≡◌, ◌↔◌, IfOk, OnOk, OnErr, IsTrue};
+ghost use Rattle.std.specs.Prelude.{◌≡◌, ◌↔◌, IfOk, IfSome, OnOk, OnErr, IsTrue};
 ghost use Rattle.std.specs.Option.{option_map};
 ghost use Rattle.std.specs.FinMap as map;
+ghost use Rattle.fx_value.specs.Change.{changed, IsReshape};
 ghost use Rattle.fx_value.specs.Row.{row_of};
 
+use crate::change::{Change, Reshape};
 use crate::head::{Head, OwnPlace};
 use crate::scalar::Scalar;
 use crate::shape::Shape;
@@ -104,6 +106,22 @@ impl Row {
         let head = self.head.as_ref().without(alloc, label)?;
         self.head = Rc::new(alloc, head)?;
         Ok(())
+    }
+
+    /// Makes the change; rows whose heads are the same as the last one's share what it became.
+    pub(crate) fn change(
+        &mut self,
+        alloc: Global,
+        change: &Change,
+        last: Option<Reshape>,
+    ) -> Result<Reshape, Memory>
+        requires { IfSome last (IsReshape change.now) }
+        ensures row { OnOk result (self.new ≡ changed change.now self.old) }
+        ensures known { IfOk result (IsReshape change.now) }
+    {
+        let known = change.reshape(alloc, &self.head, last)?;
+        self.head = known.to.clone()?;
+        Ok(known)
     }
 
     /// The labels, rising by bytes.

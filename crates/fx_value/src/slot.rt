@@ -1,4 +1,4 @@
-ghost use Rattle.std.specs.Prelude.{◌≡◌, OnOk, ◌++◌, ◌∷◌, [], IfOk, MatchResult};
+ghost use Rattle.std.specs.Prelude.{◌≡◌, [], ◌∷◌, ◌++◌, IfOk, OnOk, IsTrue, MatchResult};
 ghost use Rattle.std.specs.Cmp.Lexicographic.{pointwise};
 ghost use Rattle.fx_base.specs.Text.{same_text};
 ghost use Rattle.std.specs.FinMap.Entries.{put};
@@ -30,6 +30,12 @@ impl Slot {
             label: self.label.copy()?,
             source: self.source.copy()?,
         })
+    }
+
+    fn is_same(&self, other: &Slot) -> bool
+        ensures { IsTrue result → self.now ≡ other.now }
+    {
+        self.label == other.label && self.source.is_same(&other.source)
     }
 
     /// Adds the label and the value, where all rows share it.
@@ -163,4 +169,19 @@ pub fn without_label(alloc: Global, slots: &Vec<Slot>, label: &Text) -> Result<V
         }
     }
     Ok(kept)
+}
+
+/// Whether the slots are the same.
+pub fn are_same(slots: &Vec<Slot>, others: &Vec<Slot>) -> bool
+    ensures { IsTrue result → slots.now.items ≡ others.now.items }
+{
+    if slots.len() != others.len() {
+        return false;
+    }
+    for (i, slot) in slots.iter().enumerate() {
+        if !slot.is_same(&others[i]) {
+            return false;
+        }
+    }
+    true
 }
