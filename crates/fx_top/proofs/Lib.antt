@@ -1,4 +1,5 @@
 pub mod BytesLemmas
+pub mod ColumnKinds
 pub mod CommandLemmas
 pub mod ScriptLemmas
 pub mod LoadLemmas
