@@ -1,5 +1,5 @@
-use crate::{Head, Row, Scalar, Shape, Source, scalar_order};
-use fx_base::{Memory, Text};
+use crate::{Change, Head, Row, Scalar, Shape, Source, change_rows, scalar_order};
+use fx_base::{List, Memory, Text};
 use std::alloc::Global;
 use std::test::Fail;
 
@@ -24,10 +24,6 @@ fn give(row: &mut Row, alloc: Global, label: &str, value: i64) -> Result<(), Mem
     row.set(alloc, Text::of(alloc, label)?, Scalar::Int(value))
 }
 
-fn take(row: &mut Row, alloc: Global, label: &str) -> Result<(), Memory> {
-    row.remove(alloc, &Text::of(alloc, label)?)
-}
-
 /// The number at a label, 0 where there is none.
 fn number(row: &Row, alloc: Global, label: &str) -> Result<i64, Memory> {
     match row.get(&Text::of(alloc, label)?) {
@@ -37,36 +33,61 @@ fn number(row: &Row, alloc: Global, label: &str) -> Result<i64, Memory> {
     }
 }
 
-fn numbers(row: &Row, alloc: Global) -> Result<(i64, i64, i64), Memory> {
-    let field = number(row, alloc, "field")?;
-    let time = number(row, alloc, "time")?;
-    let value = number(row, alloc, "value")?;
-    Ok((field, time, value))
+/// The labels with their numbers, as `a=1;b=2;`.
+fn shown(row: &Row, alloc: Global) -> Result<String, Memory> {
+    let labels = row.labels(alloc)?;
+    let mut shown = String::new(alloc);
+    for label in labels.as_slice() {
+        let number = number(row, alloc, label.as_str())?;
+        let cell = format!(in alloc; "{label}={number};")?;
+        shown.push_str(cell.as_str())?;
+    }
+    Ok(shown)
 }
 
 #[test]
 fn rows_of_one_shape_are_set_apart(rt: HostRuntime) -> Result<(), Fail> {
     let alloc = rt.alloc();
-    let mut row = point(alloc, 1, 10)?;
-    let other = row.copy()?;
+    let other = point(alloc, 1, 10)?;
     for (label, want) in [
-        ("value", (7, 1, 99)),
-        ("time", (7, 99, 99)),
-        ("field", (99, 99, 99)),
+        ("value", "field=7;time=1;value=99;"),
+        ("time", "field=7;time=99;value=10;"),
+        ("field", "field=99;time=1;value=10;"),
     ] {
+        let mut row = other.copy()?;
         give(&mut row, alloc, label, 99)?;
-        assert_eq!(rt; numbers(&row, alloc)?, want, "set at {label}");
-        assert_eq!(rt;
-            numbers(&other, alloc)?,
-            (7, 1, 10),
-            "copied before {label}"
-        );
+        assert_eq!(rt; shown(&row, alloc)?.as_str(), want, "set at {label}");
         assert!(rt; row.same_labels(&other));
     }
-    take(&mut row, alloc, "time")?;
-    assert_eq!(rt; numbers(&row, alloc)?, (99, 0, 99));
-    assert!(rt; !row.same_labels(&other));
+    assert_eq!(rt; shown(&other, alloc)?.as_str(), "field=7;time=1;value=10;");
     Ok(())
+}
+
+#[test]
+fn a_change_goes_through_all_rows(rt: HostRuntime) -> Result<(), Fail> {
+    let alloc = rt.alloc();
+    let label = Text::of(alloc, "time")?;
+    let rows = change_rows(alloc, points(alloc)?, &Change::Remove { label })?;
+    let mut all = String::new(alloc);
+    for row in rows.as_slice() {
+        all.push_str(shown(row, alloc)?.as_str())?;
+    }
+    assert_eq!(rt; all.as_str(), "field=7;value=10;field=7;value=20;lone=1;");
+    Ok(())
+}
+
+/// Two rows of one shape, and one of its own.
+fn points(alloc: Global) -> Result<List<Row>, Memory> {
+    let mut rows = List::empty(alloc);
+    let row = point(alloc, 1, 10)?;
+    let mut next = row.copy()?;
+    give(&mut next, alloc, "value", 20)?;
+    rows.push(row)?;
+    rows.push(next)?;
+    let mut lone = Row::empty(alloc)?;
+    give(&mut lone, alloc, "lone", 1)?;
+    rows.push(lone)?;
+    Ok(rows)
 }
 
 #[test]
@@ -76,13 +97,7 @@ fn labels_rise_by_bytes(rt: HostRuntime) -> Result<(), Fail> {
     for label in ["b", "é", "", "ab", "B", "a", "ab"] {
         give(&mut row, alloc, label, 1)?;
     }
-    let labels = row.labels(alloc)?;
-    let mut shown = String::new(alloc);
-    for label in labels.as_slice() {
-        shown.push_str(label.as_str())?;
-        shown.push(';')?;
-    }
-    assert_eq!(rt; shown.as_str(), ";B;a;ab;b;é;");
+    assert_eq!(rt; shown(&row, alloc)?.as_str(), "=1;B=1;a=1;ab=1;b=1;é=1;");
     Ok(())
 }
 
