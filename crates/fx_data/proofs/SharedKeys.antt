@@ -1,6 +1,6 @@
 -- A table of the rows of a head, under the key of the values that they share, is lawful.
-use Rattle.std.proofs.Common.{◌≡◌, ℕ, Bool, true, false, T, List, [], ◌∷◌, map, refl, sym, ap, subst, ◌∙◌}
-use Rattle.std.specs.Prelude.{◌&&◌, cond, Option, None, Some, filter_map}
+use Rattle.std.proofs.Common.{◌≡◌, ℕ, Bool, true, false, T, List, [], ◌∷◌, map, refl, ap, ◌∙◌}
+use Rattle.std.specs.Prelude.{◌&&◌, Some, filter_map}
 use Rattle.std.specs.declared.cmp.Ordering.{Ordering}
 use Rattle.std.specs.declared.cmp.Ordering.TheVariants.{Less, Equal, Greater}
 use Rattle.std.specs.Ordering.{is_lt, eq_by_cmp, ordering_reverse}
@@ -15,12 +15,11 @@ use Rattle.fx_base.specs.Text.{text_cmp}
 use Rattle.fx_value.specs.declared.scalar.Scalar.{Scalar}
 use Rattle.fx_value.specs.declared.source.Source.{Source}
 use Rattle.fx_value.specs.declared.source.Source.TheVariants.{Fixed, First, Second}
-use Rattle.fx_value.specs.Row.{row_of, shared_cell, shared}
+use Rattle.fx_value.specs.Row.{row_of, shared_cell}
 use Rattle.fx_value.specs.Source.{value_at}
 use Rattle.fx_value.proofs.Rows.{get-row_of}
-use Rattle.fx_data.specs.declared.key.KeyEntry.{KeyEntry}
 use Rattle.fx_data.specs.Shared.{column_entry, key_of}
-use Rattle.fx_data.specs.Table.{HasKey, IsLawfulTable, shown}
+use Rattle.fx_data.specs.Table.{HasKey, IsLawfulTable}
 
 T_left : (a b : Bool) → T (a && b) → T a
 T_left true b h = tt

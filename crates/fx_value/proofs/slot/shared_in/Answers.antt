@@ -1,4 +1,4 @@
-use Rattle.std.proofs.Common.{◌≡◌, ◌∷◌, [], ◌++◌, ◌∙◌, ap, sym, subst, filter_map, ◌<◌, length, get_or}
+use Rattle.std.proofs.Common.{◌≡◌, ◌∷◌, [], ◌++◌, ◌∙◌, ap, subst, filter_map, ◌<◌, length, get_or}
 use Rattle.fx_value.specs.Row.{shared_cell}
 use Rattle.fx_value.specs.Slots.{entry_of}
 use Rattle.fx_value.proofs.Heads.{shared_more}

@@ -1,4 +1,4 @@
-use Rattle.std.proofs.Common.{◌∙◌, ap, sym, subst, ◌≡◌}
+use Rattle.std.proofs.Common.{subst, ◌≡◌}
 use Rattle.std.specs.Prelude.{IfOk}
 use Rattle.fx_value.proofs.Heads.{shared_are}
 use Rattle.fx_value.proofs.head.Head.shared.Goals as goal
