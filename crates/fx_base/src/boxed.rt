@@ -1,9 +1,8 @@
 ghost use Rattle.std.specs.Prelude.{◌≡◌, IfOk};
 
+use crate::memory::Memory;
 use std::alloc::Global;
 use std::marker::Model;
-
-use crate::memory::Memory;
 
 /// A `Box` that contracts see as the value in it, so that a tree is the tree of its values.
 #[derive(Debug, Drop)]
@@ -46,6 +45,7 @@ impl<T: Drop> Boxed<T> {
 
 impl<T: PartialEq> PartialEq for Boxed<T> {
     ghost eq = { T.eq };
+
     ghost laws = { T.laws };
 
     fn eq(&self, other: &Boxed<T>) -> bool {
@@ -55,4 +55,20 @@ impl<T: PartialEq> PartialEq for Boxed<T> {
 
 impl<T: Eq> Eq for Boxed<T> {
     ghost laws = { T.Eq.laws };
+}
+
+#[cfg(test)]
+mod tests {
+    use super::*;
+    use std::test::Fail;
+
+    #[test]
+    fn holds_one_value(rt: HostRuntime) -> Result<(), Fail> {
+        let one: Boxed<u64> = Boxed::new(rt.alloc(), 1)?;
+        let other = Boxed::new(rt.alloc(), 1)?;
+        assert!(rt; one == other);
+        assert_eq!(rt; *one.get(), 1);
+        assert_eq!(rt; one.into_inner(), 1);
+        Ok(())
+    }
 }

@@ -1,9 +1,8 @@
 ghost use Rattle.std.specs.Prelude.{◌≡◌, ℕ, ◌<◌, ◌-◌, ◌^◌};
 ghost use Rattle.fx_base.specs.Outside.{Content, Loads, LoadCause};
 
-use std::alloc::Global;
-
 use crate::text::Text;
+use std::alloc::Global;
 
 /// Why a file was not loaded.
 #[derive(Clone, Copy, Debug, PartialEq, Eq)]

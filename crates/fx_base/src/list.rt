@@ -1,11 +1,10 @@
 ghost use Rattle.std.specs.Prelude.{◌≡◌, [], ◌∷◌, ◌++◌, OnOk, OnErr};
 
+use crate::memory::Memory;
 use std::alloc::Global;
 use std::cmp::Ordering;
 use std::hash::{Hash, Hasher};
 use std::marker::Model;
-
-use crate::memory::Memory;
 
 /// A `Vec` that contracts see as the list of its items, also inside a type that leads back to
 /// itself.
@@ -81,6 +80,7 @@ impl<T: PartialEq> PartialEq for List<T> {
     ghost use Rattle.std.specs.Cmp.Lexicographic.{pointwise, lists_per};
 
     ghost eq = { pointwise T.eq };
+
     ghost laws = { lists_per T.laws };
 
     fn eq(&self, other: &List<T>) -> bool {
@@ -98,6 +98,7 @@ impl<T: PartialOrd> PartialOrd for List<T> {
     ghost use Rattle.std.specs.Cmp.Lexicographic.{slice_partial_cmp, lists_po};
 
     ghost partial_cmp = { slice_partial_cmp T.partial_cmp };
+
     ghost laws = { lists_po T.PartialOrd.laws };
 
     fn partial_cmp(&self, other: &List<T>) -> Option<Ordering> {
@@ -109,8 +110,11 @@ impl<T: Ord> Ord for List<T> {
     ghost use Rattle.std.specs.Cmp.Lexicographic.{slice_cmp, lists_total, lists_agrees, lists_ties};
 
     ghost cmp = { slice_cmp T.cmp };
+
     ghost total = { lists_total T.total };
+
     ghost matches_partial_cmp = { lists_agrees T.matches_partial_cmp };
+
     ghost matches_eq = { lists_ties T.cmp T.matches_eq };
 
     fn cmp(&self, other: &List<T>) -> Ordering {
@@ -123,9 +127,47 @@ impl<T: Hash> Hash for List<T> {
     ghost use Rattle.std.specs.Hash.{items_Alike};
 
     ghost hash_input = { fed.slice T.hash_input };
+
     ghost respects_eq = { (items_Alike (record { fed = T.respects_eq })).fed };
 
     fn hash<H: Hasher>(&self, state: &mut H) {
         self.items.hash(state);
+    }
+}
+
+#[cfg(test)]
+mod tests {
+    use super::*;
+    use std::test::Fail;
+
+    fn numbers(rt: &HostRuntime, items: &[u64]) -> Result<List<u64>, Fail> {
+        let mut list = List::empty(rt.alloc());
+        for item in items {
+            list.push(*item)?;
+        }
+        Ok(list)
+    }
+
+    #[test]
+    fn keeps_what_is_pushed_in_order(rt: HostRuntime) -> Result<(), Fail> {
+        let mut list = numbers(&rt, &[3, 1, 2])?;
+        list.extend(&[5, 4])?;
+        assert_eq!(rt; list.as_slice(), [3, 1, 2, 5, 4].as_slice());
+        let again = List::of(list.into_vec());
+        assert_eq!(rt; again.as_slice(), [3, 1, 2, 5, 4].as_slice());
+        Ok(())
+    }
+
+    #[test]
+    fn lists_are_ordered_item_by_item(rt: HostRuntime) -> Result<(), Fail> {
+        let rising: [&[u64]; 5] = [&[], &[1], &[1, 0], &[1, 2], &[2]];
+        for (i, a) in rising.iter().enumerate() {
+            for (j, b) in rising.iter().enumerate() {
+                let (a, b) = (numbers(&rt, a)?, numbers(&rt, b)?);
+                assert_eq!(rt; a.cmp(&b), i.cmp(&j), "{a:?} and {b:?}");
+                assert_eq!(rt; a == b, i == j, "{a:?} and {b:?}");
+            }
+        }
+        Ok(())
     }
 }

@@ -2,11 +2,10 @@ ghost use Rattle.std.specs.Prelude.{◌≡◌, ℕ, List, Some};
 ghost use Rattle.std.specs.Option.{option_map};
 ghost use Rattle.fx_base.specs.Files.{file_of};
 
-use std::alloc::Global;
-
 use crate::files::{FileFault, Files};
 use crate::list::List;
 use crate::text::Text;
+use std::alloc::Global;
 
 /// A file in memory.
 #[derive(Debug, Drop)]
@@ -51,6 +50,7 @@ fn find<'a>(files: &'a [NamedFile], name: &Text) -> Option<&'a List<u8>>
 
 impl Files for MemoryFiles {
     ghost content = { λ m. Some (file_of m.files) };
+
     ghost faults = { λ m. m.faults };
 
     fn load(&mut self, alloc: Global, name: &Text, limit: u64) -> Result<Vec<u8>, FileFault> {
@@ -72,5 +72,77 @@ impl Files for MemoryFiles {
                 Err(_) => Err(FileFault::Memory),
             },
         }
+    }
+}
+
+#[cfg(test)]
+mod tests {
+    use super::*;
+    use std::test::Fail;
+
+    fn named(rt: &HostRuntime, name: &str, bytes: &[u8]) -> Result<NamedFile, Fail> {
+        Ok(NamedFile {
+            name: Text::of(rt.alloc(), name)?,
+            bytes: List::of(Vec::from_slice(rt.alloc(), bytes)?),
+        })
+    }
+
+    fn holding(rt: &HostRuntime, failing: &[u64]) -> Result<MemoryFiles, Fail> {
+        let mut files = List::empty(rt.alloc());
+        files.push(named(rt, "a", b"12345")?)?;
+        files.push(named(rt, "b", b"")?)?;
+        files.push(named(rt, "a", b"hidden")?)?;
+        let failing = List::of(Vec::from_slice(rt.alloc(), failing)?);
+        Ok(MemoryFiles::holding(files, failing))
+    }
+
+    fn load_of<F: Files>(
+        rt: &HostRuntime,
+        files: &mut F,
+        name: &str,
+        limit: u32,
+    ) -> Result<Result<usize, FileFault>, Fail> {
+        let name = Text::of(rt.alloc(), name)?;
+        Ok(match files.load(rt.alloc(), &name, u64::from(limit)) {
+            Ok(bytes) => Ok(bytes.len()),
+            Err(fault) => Err(fault),
+        })
+    }
+
+    #[test]
+    fn loads_the_first_file_of_a_name_up_to_the_limit(rt: HostRuntime) -> Result<(), Fail> {
+        let rows = [
+            ("a", 6, Ok(5)),
+            ("a", 5, Ok(5)),
+            ("a", 4, Err(FileFault::TooLong { taken: 5 })),
+            ("a", 0, Err(FileFault::TooLong { taken: 1 })),
+            ("b", 0, Ok(0)),
+            ("c", 9, Err(FileFault::Failed)),
+        ];
+        let mut files = holding(&rt, &[])?;
+        for (name, limit, want) in rows {
+            let got = load_of(&rt, &mut files, name, limit)?;
+            assert_eq!(rt; got, want, "{name} up to {limit}");
+        }
+        assert_eq!(rt; files.faults, 1);
+        Ok(())
+    }
+
+    #[test]
+    fn the_numbered_loads_fail(rt: HostRuntime) -> Result<(), Fail> {
+        let mut files = holding(&rt, &[2, 4])?;
+        let wants = [
+            Ok(5),
+            Err(FileFault::Failed),
+            Ok(5),
+            Err(FileFault::Failed),
+            Ok(5),
+        ];
+        for want in wants {
+            let got = load_of(&rt, &mut files, "a", 9)?;
+            assert_eq!(rt; got, want);
+        }
+        assert_eq!(rt; files.faults, 2);
+        Ok(())
     }
 }

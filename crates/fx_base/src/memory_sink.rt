@@ -1,9 +1,8 @@
 ghost use Rattle.std.specs.Prelude.{◌≡◌, Some, []};
 
-use std::alloc::Global;
-
 use crate::list::List;
 use crate::sink::{Sink, SinkFault};
+use std::alloc::Global;
 
 /// A sink in memory, some of whose writes fail.
 #[derive(Debug, Drop)]
@@ -38,6 +37,7 @@ impl MemorySink {
 
 impl Sink for MemorySink {
     ghost written = { λ m. Some m.bytes };
+
     ghost faults = { λ m. m.faults };
 
     fn write(&mut self, piece: &[u8]) -> Result<(), SinkFault> {
@@ -53,5 +53,34 @@ impl Sink for MemorySink {
             Ok(()) => Ok(()),
             Err(_) => Err(SinkFault::Memory),
         }
+    }
+}
+
+#[cfg(test)]
+mod tests {
+    use super::*;
+    use std::test::Fail;
+
+    fn write_to<S: Sink>(sink: &mut S, piece: &[u8]) -> Result<(), SinkFault> {
+        sink.write(piece)
+    }
+
+    #[test]
+    fn a_numbered_write_keeps_the_first_half_of_its_piece(rt: HostRuntime) -> Result<(), Fail> {
+        let calls = List::of(Vec::from_slice(rt.alloc(), &[2, 3])?);
+        let mut sink = MemorySink::failing(rt.alloc(), calls);
+        let rows: [(&[u8], Result<(), SinkFault>, &[u8]); 5] = [
+            (b"abc", Ok(()), b"abc"),
+            (b"defgh", Err(SinkFault::Failed), b"abcde"),
+            (b"i", Err(SinkFault::Failed), b"abcde"),
+            (b"", Ok(()), b"abcde"),
+            (b"jk", Ok(()), b"abcdejk"),
+        ];
+        for (piece, want, written) in rows {
+            assert_eq!(rt; write_to(&mut sink, piece), want, "{piece:?}");
+            assert_eq!(rt; sink.bytes().as_slice(), written, "{piece:?}");
+        }
+        assert_eq!(rt; sink.faults, 2);
+        Ok(())
     }
 }

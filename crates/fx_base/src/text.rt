@@ -2,15 +2,13 @@ ghost use Rattle.std.specs.Prelude.{◌≡◌, ℕ, IfOk, IsErrOf};
 ghost use Rattle.std.specs.Str.{IsUtf8, IsValidUpTo};
 ghost use Rattle.fx_base.specs.declared.text.TextFault.{TextFault};
 
+use crate::memory::Memory;
 use std::alloc::{AllocError, Global};
 use std::cmp::Ordering;
-use std::fmt;
 use std::hash::{Hash, Hasher};
 use std::marker::Model;
 use std::rc::RcStr;
-use std::str;
-
-use crate::memory::Memory;
+use std::{fmt, str};
 
 /// A text in UTF-8 that its copies share: a copy takes no memory. Contracts see its bytes, and
 /// texts compare by bytes.
@@ -103,6 +101,7 @@ impl PartialEq for Text {
     ghost use Rattle.std.specs.Prelude.{nat_eq};
 
     ghost eq = { pointwise nat_eq };
+
     ghost laws = { partial_equiv_from_equiv nat_list_eq_equiv };
 
     fn eq(&self, other: &Text) -> bool {
@@ -122,6 +121,7 @@ impl PartialOrd for Text {
     ghost use Rattle.std.specs.Cmp.Lexicographic.{slice_cmp, texts_po};
 
     ghost partial_cmp = { λ x y. Some (slice_cmp nat_cmp x y) };
+
     ghost laws = { texts_po };
 
     fn partial_cmp(&self, other: &Text) -> Option<Ordering> {
@@ -135,8 +135,11 @@ impl Ord for Text {
     ghost use Rattle.std.specs.Cmp.Lexicographic.{slice_cmp, nat_list_cmp_total, texts_ties};
 
     ghost cmp = { slice_cmp nat_cmp };
+
     ghost total = { nat_list_cmp_total };
+
     ghost matches_partial_cmp = { λ x y. refl };
+
     ghost matches_eq = { texts_ties };
 
     fn cmp(&self, other: &Text) -> Ordering {
@@ -150,6 +153,7 @@ impl Hash for Text {
     ghost use Rattle.std.proofs.Common.{rules};
 
     ghost hash_input = { fed.str };
+
     ghost respects_eq = { Prim.search (hashing, rules) };
 
     fn hash<H: Hasher>(&self, state: &mut H) {
@@ -164,5 +168,70 @@ impl fmt::Display for Text {
 
     fn fmt<W: fmt::Write>(&self, f: &mut fmt::Formatter<W>) -> fmt::Result {
         f.write_str(self.as_str())
+    }
+}
+
+#[cfg(test)]
+mod tests {
+    use super::*;
+    use std::test::Fail;
+
+    fn text(rt: &HostRuntime, s: &str) -> Result<Text, Fail> {
+        Ok(Text::of(rt.alloc(), s)?)
+    }
+
+    #[test]
+    fn reads_what_is_utf8_and_says_where_it_stops(rt: HostRuntime) {
+        let rows: [(&[u8], Result<u64, u64>); 9] = [
+            (b"", Ok(0)),
+            (b"cpu", Ok(3)),
+            (b"\xc3\xa9t\xc3\xa9", Ok(5)),
+            (b"\xff", Err(0)),
+            (b"ab\xc3", Err(2)),
+            (b"\xc3\xa9\x80", Err(2)),
+            (b"a\xc0\x80", Err(1)),
+            (b"ok\xed\xa0\x80", Err(2)),
+            (b"\xf4\x90\x80\x80", Err(0)),
+        ];
+        for (bytes, want) in rows {
+            let read = match Text::read(rt.alloc(), bytes) {
+                Ok(text) => Ok(text.as_bytes().len() as u64),
+                Err(TextFault::NotUtf8 { at }) => Err(at),
+                Err(TextFault::Memory) => Err(u64::MAX),
+            };
+            assert_eq!(rt; read, want, "{bytes:?}");
+        }
+    }
+
+    #[test]
+    fn copies_are_equal_and_outlive_their_source(rt: HostRuntime) -> Result<(), Fail> {
+        let first = text(&rt, "load")?;
+        let second = first.copy()?;
+        assert!(rt; first == second);
+        drop(first);
+        assert_eq!(rt; second.as_str(), "load");
+        assert_eq!(rt; second.as_bytes(), b"load".as_slice());
+        assert_eq!(rt; format!(in rt.alloc(); "<{second}>")?.as_str(), "<load>");
+        Ok(())
+    }
+
+    #[test]
+    fn texts_are_ordered_by_their_bytes(rt: HostRuntime) -> Result<(), Fail> {
+        let rising = ["", "Z", "_", "a", "a.b", "ab", "b", "z", "\u{e9}"];
+        for (i, a) in rising.iter().enumerate() {
+            for (j, b) in rising.iter().enumerate() {
+                let order = text(&rt, a)?.cmp(&text(&rt, b)?);
+                assert_eq!(rt; order, i.cmp(&j), "{a:?} and {b:?}");
+            }
+        }
+        Ok(())
+    }
+
+    #[test]
+    fn faults_have_a_line(rt: HostRuntime) -> Result<(), Fail> {
+        let fault = TextFault::NotUtf8 { at: 7 };
+        let line = format!(in rt.alloc(); "{fault}")?;
+        assert_eq!(rt; line.as_str(), "byte 7 begins no character of UTF-8");
+        Ok(())
     }
 }

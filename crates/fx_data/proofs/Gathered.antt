@@ -3,7 +3,7 @@ use Rattle.std.proofs.Common.{◌≡◌, Bool, true, false, T, List, [], ◌∷�
 use Rattle.std.proofs.lemmas.List.{append-nil}
 use Rattle.std.specs.Prelude.{cond, ◌||◌, ◌&&◌, Option, None, Some}
 use Rattle.std.specs.declared.cmp.Ordering.TheVariants.{Less}
-use Rattle.std.specs.Ordering.{eq_by_cmp, is_lt}
+use Rattle.std.specs.Ordering.{is_eq, eq_by_cmp, is_lt}
 use Rattle.std.specs.Option.{unwrap_or}
 use Rattle.std.specs.List.{AllByRecursion, filter, flat_map, list_any}
 use Rattle.std.specs.List.Sorted.{IsStrictlySortedBy}
@@ -155,3 +155,39 @@ entries_are es ts sorted answers =
 pub get-grouped-none : (es : List (Key × Rows)) (k : Key) → es ≡ [] → lookup (is_at (key_cmp k)) es ≡ fin.get (grouped []) k
 unfolding rows_at has
 get-grouped-none es k none = ap (lookup (is_at (key_cmp k))) none ∙ sym (get-grouped k [])
+
+-- ---- tables whose keys rise
+
+has_none : (k : Key) (ts : List Table) → AllByRecursion (λ q. key_cmp k q ≡ Less) (map (λ t. t.key) ts) → has k ts ≡ false
+unfolding has
+has_none k [] h = refl
+has_none k (t ∷ ts) h = ap (λ o. is_eq o || has k ts) h.0 ∙ has_none k ts h.1
+
+abbrev pair_of : Table → Key × Rows
+pair_of t = (t.key, t.rows)
+
+find-pairs : (k : Key) (ts : List Table) → IsStrictlySortedBy key_cmp (map (λ t. t.key) ts) → find key_cmp k (map pair_of ts) ≡ rows_at k ts
+unfolding IsStrictlySortedBy rows_at has
+find-pairs k [] h = refl
+find-pairs k (t ∷ ts) h =
+    elim (eq_by_cmp key_cmp k t.key) as (λ b. eq_by_cmp key_cmp k t.key ≡ b → cond b (Some t.rows) (find key_cmp k (map pair_of ts))
+    ≡ cond (b || has k ts) (Some (flat_map (λ u. u.rows) (cond b (t ∷ filter (λ u. eq_by_cmp key_cmp k u.key) ts) (filter (λ u. eq_by_cmp key_cmp k u.key) ts)))) None) [
+      | true ↦ λ b.
+          let above = subst (λ (q : Key). AllByRecursion (λ p. key_cmp q p ≡ Less) (map (λ u. u.key) ts)) (sym (key_same k t.key ((Equal-is _).0 b))) h.0 in
+          ap (λ (rs : Rows). Some rs) (sym (append-nil t.rows) ∙ ap (λ (rs : Rows). t.rows ++ rs) (sym (none_with k ts (has_none k ts above))))
+      | false ↦ λ b. find-pairs k ts h.1
+    ] refl
+
+keys-pairs : (ts : List Table) → keys_of (map pair_of ts) ≡ map (λ t. t.key) ts
+keys-pairs [] = refl
+keys-pairs (t ∷ ts) = ap (λ ks. t.key ∷ ks) (keys-pairs ts)
+
+tables-pairs : (ts : List Table) → map table_of (map pair_of ts) ≡ ts
+tables-pairs [] = refl
+tables-pairs (t ∷ ts) = ap (λ us. t ∷ us) (tables-pairs ts)
+
+-- tables whose keys rise are gathered as they are
+pub gathered_rising : (ts : List Table) → IsStrictlySortedBy key_cmp (map (λ t. t.key) ts) → gathered ts ≡ ts
+gathered_rising ts h =
+    sym (entries_are (map pair_of ts) ts (subst (IsStrictlySortedBy key_cmp) (sym (keys-pairs ts)) h)
+    (λ k. lookup-find k (map pair_of ts) ∙ find-pairs k ts h ∙ sym (get-grouped k ts))) ∙ tables-pairs ts

@@ -13,6 +13,7 @@ use Rattle.std.specs.FinMap.Entries.{by_order, put, is_sorted, below_all}
 use Rattle.fx_base.specs.Text.{text_cmp}
 use Rattle.fx_value.specs.declared.scalar.Scalar.{Scalar}
 use Rattle.fx_data.specs.declared.key.Key.{Key}
+use Rattle.fx_data.specs.declared.key.KeyEntry.{KeyEntry}
 use Rattle.fx_data.specs.declared.table.Table.{Table}
 use Rattle.fx_data.specs.Gathered.{rows_with, grouped, gathered, table_of}
 use Rattle.fx_data.specs.Key.{key_cmp}
@@ -33,6 +34,10 @@ IsGood e = IsLawfulTable (table_of e)
 all-append : {X : Type 0} (P : X → Type 0) (xs ys : List X) → AllByRecursion P xs → AllByRecursion P ys → AllByRecursion P (xs ++ ys)
 all-append P [] ys g h = h
 all-append P (x ∷ xs) ys g h = (g.0, all-append P xs ys g.1 h)
+
+-- lawful tables and one more
+pub lawful_push : (old new : List Table) (t : Table) → new ≡ old ++ t ∷ [] → AllByRecursion IsLawfulTable old → IsLawfulTable t → AllByRecursion IsLawfulTable new
+lawful_push old new t is g h = subst (AllByRecursion IsLawfulTable) (sym is) (all-append IsLawfulTable old (t ∷ []) g (h, tt))
 
 all_of_none : (es : List (Key × Rows)) → length es ≡ 0 → AllByRecursion IsGood es
 all_of_none [] n = tt
@@ -109,3 +114,23 @@ pub gathered_lawful : (ts : List Table) → AllByRecursion IsLawfulTable ts → 
 unfolding gathered
 gathered_lawful ts h =
     record { each = all_tables _ (all_good ts h); rising = all_rise _ (fin.entries_sorted (grouped ts)) }
+
+-- ---- small tables
+
+alike : (rows : Rows) → AllByRecursion (HasKey []) rows
+alike [] = tt
+alike (r ∷ rows) = (tt, alike rows)
+
+-- a table without key entries is lawful
+pub bare_lawful : (t : Table) → t.key.entries ≡ [] → IsLawfulTable t
+unfolding IsStrictlySortedBy
+bare_lawful t none =
+    let labels : IsStrictlySortedBy text_cmp (map (λ e. e.label) t.key.entries) = subst (λ (es : List KeyEntry). IsStrictlySortedBy text_cmp (map (λ e. e.label) es)) (sym none) tt in
+    record { rising = labels; columns = subst (λ (es : List KeyEntry). AllByRecursion (HasKey es) t.rows) (sym none) (alike t.rows) }
+
+-- so is one with a single entry and no rows
+pub single_lawful : (t : Table) (e : KeyEntry) → t.key.entries ≡ e ∷ [] → t.rows ≡ [] → IsLawfulTable t
+unfolding IsStrictlySortedBy
+single_lawful t e one none =
+    let labels : IsStrictlySortedBy text_cmp (map (λ d. d.label) t.key.entries) = subst (λ (es : List KeyEntry). IsStrictlySortedBy text_cmp (map (λ d. d.label) es)) (sym one) (tt, tt) in
+    record { rising = labels; columns = subst (AllByRecursion (HasKey t.key.entries)) (sym none) tt }

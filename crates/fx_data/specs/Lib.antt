@@ -1,3 +1,4 @@
 pub mod Gathered
 pub mod Key
+pub mod Shared
 pub mod Table

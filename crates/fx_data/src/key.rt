@@ -1,10 +1,11 @@
-ghost use Rattle.std.specs.Prelude.{◌≡◌};
+ghost use Rattle.std.specs.Prelude.{◌≡◌, IfOk};
 ghost use Rattle.std.specs.Cmp.{IsTotalOrder};
 ghost use Rattle.std.specs.FinMap.{IsAntisymmetric};
 ghost use Rattle.fx_data.specs.Key.{key_cmp};
 
-use fx_base::{List, Text};
+use fx_base::{List, Memory, Text};
 use fx_value::Scalar;
+use std::alloc::Global;
 use std::cmp::Ordering;
 
 /// A label by which a table is grouped, with the value that its rows share. A pinned entry is no
@@ -20,6 +21,33 @@ pub struct KeyEntry {
 #[derive(Debug, PartialEq, Eq, PartialOrd, Ord, Drop)]
 pub struct Key {
     pub entries: List<KeyEntry>,
+}
+
+impl KeyEntry {
+    pub fn copy(&self) -> Result<KeyEntry, Memory>
+        ensures { IfOk result (λ e. e ≡ self.now) }
+    {
+        Ok(KeyEntry {
+            label: self.label.copy()?,
+            value: self.value.copy()?,
+            pinned: self.pinned,
+        })
+    }
+}
+
+impl Key {
+    pub fn copy(&self, alloc: Global) -> Result<Key, Memory>
+        ensures { IfOk result (λ k. k ≡ self.now) }
+    {
+        let entries = self.entries.as_slice();
+        let mut copies = Vec::with_capacity(alloc, entries.len())?;
+        for entry in entries {
+            copies.push(entry.copy()?)?;
+        }
+        Ok(Key {
+            entries: List::of(copies),
+        })
+    }
 }
 
 /// Entry by entry: the label by bytes, then the value, then an unpinned entry before a pinned one. A

@@ -3,10 +3,14 @@
 
 mod groups;
 mod key;
+mod shared;
 mod table;
 mod tables;
+#[cfg(test)]
+mod tests;
 
 pub use groups::gather;
 pub use key::{Key, KeyEntry, key_order, key_order_is_total};
+pub use shared::shared_key;
 pub use table::Table;
 pub use tables::Tables;

@@ -39,6 +39,14 @@ impl Tables {
         }
     }
 
+    /// Lawful tables whose keys rise.
+    pub fn of(items: List<Table>) -> Tables
+        requires { AreLawful items }
+        ensures { result ≡ items }
+    {
+        Tables { items }
+    }
+
     pub fn len(&self) -> u64
         ensures { result ≡ length self.now }
     {

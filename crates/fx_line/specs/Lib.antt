@@ -1,2 +1,4 @@
 pub mod Line
+pub mod Order
+pub mod Parts
 pub mod Stored

@@ -1,4 +1,6 @@
 pub mod Held
+pub mod HeldAnswers
+pub mod Laws
 pub mod Put
 pub mod Read
 pub mod Store

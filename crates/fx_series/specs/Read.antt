@@ -1,5 +1,5 @@
 -- What is read of a store.
-use Rattle.std.specs.Prelude.{ℕ, ℤ, Bool, true, false, ◌&&◌, List, Option, Some, map, filter, int_le}
+use Rattle.std.specs.Prelude.{ℕ, ℤ, Bool, true, false, ◌&&◌, ◌+◌, List, [], ◌∷◌, if◌then◌else◌, Option, Some, map, filter, int_le}
 use Rattle.fx_base.specs.Text.{same_text}
 use Rattle.fx_value.specs.declared.scalar.Kind.{Kind}
 use Rattle.fx_value.specs.declared.scalar.Kind.TheVariants as kind
@@ -25,3 +25,8 @@ between first last values = filter (λ v. int_le first v.0 && int_le v.0 last) v
 -- times and values as pairs
 abbrev pub pairs : List TimeValue → List (ℤ × Scalar)
 pairs values = map (λ v. (v.time, v.value)) values
+
+-- the numbers from `at` on of the items that pass a test
+abbrev pub places : {X : Type 0} → (X → Bool) → ℕ → List X → List ℕ
+places test at [] = []
+places test at (x ∷ xs) = if test x then at ∷ places test (at + 1) xs else places test (at + 1) xs

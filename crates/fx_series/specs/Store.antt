@@ -3,7 +3,7 @@ use Rattle.std.specs.Prelude.{◌≡◌, ℕ, Bool, true, List, [], ◌∷◌, �
 use Rattle.std.specs.List.{list_any}
 use Rattle.fx_base.specs.Text.{same_text}
 use Rattle.fx_value.specs.Scalar.{kind_of}
-use Rattle.fx_line.specs.Stored.{StoredPoint, SeriesId, Series, points_of, kind_of_points, grouped}
+use Rattle.fx_line.specs.Stored.{IsLawful, StoredPoint, SeriesId, Series, points_of, kind_of_points, grouped}
 
 -- what a store keeps: its buckets in the order in which they were added, its series as they now stand in the order in
 -- which their first points were put, and how many puts it accepted
@@ -30,4 +30,5 @@ pub record StandsFor (kept : Kept) (buckets : List (List ℕ)) (stored : List St
   pub series_are : kept.series ≡ grouped stored
   pub puts_are : kept.puts ≡ length stored
   pub added : All (λ s. is_added buckets s.bucket ≡ true) stored
+  pub lawful : All (λ s. IsLawful s.point) stored
   pub one_kind : AreOfOneKind stored

@@ -1,5 +1,6 @@
 use fx_base::Memory;
 use fx_value::Kind;
+use std::alloc::AllocFailed;
 
 /// Why a point was not put.
 #[derive(Clone, Copy, Debug, PartialEq, Eq)]
@@ -19,6 +20,17 @@ impl From<Memory> for PutFault {
     ghost from_gives = { λ _ e. e ≡ fault.Memory };
 
     fn from(_: Memory) -> PutFault {
+        PutFault::Memory
+    }
+}
+
+impl<T: Drop> From<AllocFailed<T>> for PutFault {
+    ghost use Rattle.std.specs.Prelude.{◌≡◌};
+    ghost use Rattle.fx_series.specs.declared.fault.PutFault.TheVariants as fault;
+
+    ghost from_gives = { λ _ e. e ≡ fault.Memory };
+
+    fn from(_: AllocFailed<T>) -> PutFault {
         PutFault::Memory
     }
 }

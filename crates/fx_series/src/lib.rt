@@ -2,9 +2,14 @@
 #![tactic(auto)]
 
 mod fault;
+mod laws;
 mod series;
+mod series_map;
 mod store;
+#[cfg(test)]
+mod tests;
 
 pub use fault::PutFault;
+pub use laws::{last_point_stands, names_differ, times_rise};
 pub use series::TimeValue;
 pub use store::Store;

@@ -7,11 +7,12 @@ ghost use Rattle.fx_series.specs.Put.{Answers};
 ghost use Rattle.fx_series.specs.Read.{is_in, between, pairs};
 
 use crate::fault::PutFault;
-use crate::series::{Held, StoredKey, TimeValue};
+use crate::series::{StoredKey, TimeValue};
+use crate::series_map::SeriesMap;
 use fx_base::{List, Memory, Steps, Text};
 use fx_line::{Point, SeriesKey};
 use fx_value::Kind;
-use indexmap::{IndexMap, IndexSet};
+use indexmap::IndexSet;
 use std::alloc::Global;
 use std::marker::Model;
 use std::sync::ledger::Ledger;
@@ -20,20 +21,19 @@ use std::sync::ledger::Ledger;
 #[derive(Drop)]
 pub struct Store {
     buckets: IndexSet<Text>,
-    series: IndexMap<StoredKey, Held>,
+    series: SeriesMap,
     puts: u64,
 }
 
 impl Model for Store {
     ghost use Rattle.std.specs.Prelude.{◌≤◌, ◌<◌, length, map};
     ghost use Rattle.fx_series.specs.Store.{Kept};
-    ghost use Rattle.fx_series.specs.Held.{shown};
 
     ghost Value = { Kept };
 
-    ghost view = { λ s. record { buckets = s.buckets.keys; series = map shown s.series.entries; puts = s.puts } };
+    ghost view = { λ s. record { buckets = s.buckets.keys; series = s.series; puts = s.puts } };
 
-    ghost invariant = { λ s. (length s.series.entries ≤ s.puts) × (s.puts < 4294967296) };
+    ghost invariant = { λ s. (length s.series ≤ s.puts) × (s.puts < 4294967296) };
 }
 
 impl Store {
@@ -43,14 +43,13 @@ impl Store {
     {
         Ok(Store {
             buckets: IndexSet::new(alloc),
-            series: IndexMap::new(alloc),
+            series: SeriesMap::empty(alloc),
             puts: 0,
         })
     }
 
     /// Adds a bucket at the end; one that is there stays where it is.
     pub fn add_bucket(&mut self, name: &Text) -> Result<(), Memory>
-        requires { length self.old.buckets < 4294967295 }
         ensures ok { (buckets : List (List ℕ)) (stored : List StoredPoint) → StandsFor self.old buckets stored → OnOk result (StandsFor self.new (with_bucket buckets name.now) stored) }
         ensures err { OnErr result (self.new ≡ self.old) }
     {
@@ -83,8 +82,8 @@ impl Store {
     pub fn series_key(&self, series: u32) -> Option<&SeriesKey>
         ensures { option_map (λ k. k.now) result ≡ option_map (λ s. s.id.key) (slice_get self.now.series series) }
     {
-        match self.series.get_index(series as usize) {
-            Some((key, _)) => Some(&key.key),
+        match self.series.name(series) {
+            Some(name) => Some(&name.key),
             None => None,
         }
     }
@@ -100,7 +99,18 @@ impl Store {
         if !self.has_bucket(bucket) {
             return Err(PutFault::NoBucket);
         }
-        Err(PutFault::Memory)
+        let Point {
+            series,
+            time,
+            value,
+        } = point;
+        let key = StoredKey {
+            bucket: bucket.copy()?,
+            key: series,
+        };
+        self.series.put(key, time, value)?;
+        self.puts += 1;
+        Ok(())
     }
 
     /// The numbers of a bucket's series of a kind, in the order in which their first points were put.
@@ -109,7 +119,7 @@ impl Store {
         ensures within { IfOk result (λ ns. All (λ n. n < length self.now.series) ns) }
         ensures rising { IfOk result (λ ns. IsStrictlySortedBy nat_cmp ns) }
     {
-        Err(Memory)
+        self.series.numbers(alloc, bucket, kind)
     }
 
     /// The values of a series with `first <= time <= last`, by rising time.
@@ -126,6 +136,6 @@ impl Store {
         ensures steps { IfOk result (λ r. steps.new ≡ steps.old + length r) }
         ensures most { (s : Series) → slice_get self.now.series series ≡ Some s → OnErr result ((steps.old ≤ steps.new) × (steps.new ≤ steps.old + length (between first last s.values))) }
     {
-        Err(Memory)
+        self.series.read(alloc, series, first, last, steps)
     }
 }

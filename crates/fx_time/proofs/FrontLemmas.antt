@@ -126,7 +126,7 @@ digits_taken (c ∷ rest) = by_bool (is_ascii_digit c)
     (λ yes. let more : 1 + prefix_len is_ascii_digit rest ≡ suc (prefix_len is_ascii_digit rest) = omega arith in rw (yes, more, yes) (digits_taken rest))
     (λ no. rw no refl)
 
-dotted : (digits : List ℕ) → 0 < length digits → fraction_text digits ≡ 46 ∷ digits
+pub dotted : (digits : List ℕ) → 0 < length digits → fraction_text digits ≡ 46 ∷ digits
 dotted [] h = absurd (omega arith)
 dotted (d ∷ ds) h = refl
 

@@ -13,14 +13,14 @@ use Rattle.fx_time.specs.Time.{time_text}
 use Rattle.fx_time.proofs.CalendarLemmas.{date_after-same, nonneg_abs}
 
 -- the days from the year 0 to an instant
-abbrev days : ℤ → ℕ
+abbrev pub days : ℤ → ℕ
 days t = unsigned_abs (int_div_euclid t (pos nanos_of_day) +ℤ pos 719_528)
 
 -- the nanoseconds from midnight to an instant
-abbrev nanos : ℤ → ℕ
+abbrev pub nanos : ℤ → ℕ
 nanos t = unsigned_abs (int_rem_euclid t (pos nanos_of_day))
 
-days_is : (t : ℤ) → FitsSigned w64 t → (pos (days t) ≡ int_div_euclid t (pos nanos_of_day) +ℤ pos 719_528) × (days t < 3_652_425)
+pub days_is : (t : ℤ) → FitsSigned w64 t → (pos (days t) ≡ int_div_euclid t (pos nanos_of_day) +ℤ pos 719_528) × (days t < 3_652_425)
 days_is t f =
     let parts = int_div_euclid-parts t nanos_of_day (omega arith) in
     let low : pos 0 ≤ℤ (int_div_euclid t (pos nanos_of_day) +ℤ pos 719_528) = omega (arith, signed_arith, f) in

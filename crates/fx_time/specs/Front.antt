@@ -5,6 +5,7 @@ use Rattle.std.specs.Char.{is_ascii_digit}
 use Rattle.fx_time.specs.declared.read.Moment.{Moment}
 use Rattle.jiff_fmt.specs.Reader.{Digits, two_digits, four_digits, fraction_value}
 
+-- goes on with the value, where there is one
 infixl 10 ◌>>=◌
 abbrev pub ◌>>=◌ : {A B : Type 0} → Option A → (A → Option B) → Option B
 None >>= f = None
@@ -62,6 +63,7 @@ zone_front (c ∷ rest) =
     if c == 90 then Some ((false, 0), rest)
     else (if (c == 43) || (c == 45) then behind_front (c == 45) rest else None)
 
+-- the start of a day at UTC
 abbrev pub midnight : ℕ × ℕ × ℕ → Moment
 midnight date = record { year = date.0; month = date.1; day = date.2; nanos = 0; behind = false; minutes = 0 }
 

@@ -27,6 +27,7 @@ pub data Zone : Type 0 where
   Ahead : ℕ → ℕ → Zone
   Behind : ℕ → ℕ → Zone
 
+-- hours from 00 to 23, and minutes from 00 to 59
 abbrev pub IsZone : Zone → Type 0
 IsZone Utc = Unit {0}
 IsZone (Ahead hours minutes) = (hours < 24) × (minutes < 60)

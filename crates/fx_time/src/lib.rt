@@ -4,8 +4,12 @@
 mod front;
 mod print;
 mod read;
+mod round_trip;
 mod span;
+#[cfg(test)]
+mod tests;
 
 pub use print::{print_time, push_time};
 pub use read::read_time;
+pub use round_trip::printed_and_read;
 pub use span::Span;

@@ -24,7 +24,7 @@ pub fn push_time(out: &mut Vec<u8>, t: i64) -> Result<(), Memory>
     Ok(())
 }
 
-fn stamp(t: i64) -> ArrayString<33>
+pub(crate) fn stamp(t: i64) -> ArrayString<33>
     ensures { result.bytes ≡ time_text t }
 {
     let stamp = Timestamp::from_nanosecond(t as i128).unwrap();

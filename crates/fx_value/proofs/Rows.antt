@@ -1,20 +1,31 @@
 -- What a row of a head answers: a map over the values of the head's map.
 use Rattle.std.proofs.Common.{◌≡◌, ℕ, Bool, true, false, T, List, [], ◌∷◌, map, refl, sym, ap, subst, ◌∙◌}
-use Rattle.std.specs.Prelude.{◌&&◌, cond, Option, Some}
+use Rattle.std.specs.Prelude.{◌&&◌, cond, Option, None, Some}
 use Rattle.std.specs.Option.{option_map}
 use Rattle.std.specs.Ordering.{is_lt, eq_by_cmp}
 use Rattle.std.specs.Cmp.Lexicographic.{nat_list_cmp_total}
+use Rattle.std.specs.Cmp.{Equal-is, eq_by_cmp_equiv}
 use Rattle.std.specs.FinMap as fin
 use Rattle.std.specs.FinMap.{FinMap, IsAntisymmetric}
 use Rattle.std.specs.FinMap.Entries.{find, is_sorted, below_all}
 use Rattle.fx_base.specs.Text.{text_cmp}
-use Rattle.fx_value.specs.Row.{value_at, filled, row_of}
+use Rattle.fx_value.specs.Row.{filled, row_of, IsOnly}
+use Rattle.fx_value.specs.Source.{value_at}
+use Rattle.fx_value.specs.Change.{changed, changed_head}
+use Rattle.fx_value.specs.declared.change.Change.{Change}
+use Rattle.fx_value.specs.declared.change.Change.TheVariants.{Set, Remove}
 use Rattle.fx_value.specs.declared.scalar.Scalar.{Scalar}
 use Rattle.fx_value.specs.declared.source.Source.{Source}
+use Rattle.fx_value.specs.declared.source.Source.TheVariants.{Fixed, First, Second}
 
 -- texts that tie are the same
 pub text_same : IsAntisymmetric text_cmp
 text_same = fin.slice_cmp-IsAntisymmetric fin.nat_cmp-IsAntisymmetric
+
+apart : (q k : List ℕ) → eq_by_cmp text_cmp q k ≡ false → q ≡ k → ⊥
+apart q k t e =
+    let tie : eq_by_cmp text_cmp q k ≡ true = ap (eq_by_cmp text_cmp q) (sym e) ∙ (eq_by_cmp_equiv nat_list_cmp_total).refl q in
+    cc
 
 module _ (a b : Scalar) where
   below-filled : (x : List ℕ) (es : List (List ℕ × Source)) → below_all text_cmp x (filled a b es) ≡ below_all text_cmp x es
@@ -84,6 +95,66 @@ module _ (a b : Scalar) where
   row_with h g m k s view is =
       ap (λ x. row_of x a b) is ∙ row_of-insert h k s ∙ ap (λ n. fin.insert n k (value_at a b s)) view
 
+  map_without : (t : Bool) (o : Option Source) → option_map (value_at a b) (cond t None o) ≡ cond t None (option_map (value_at a b) o)
+  map_without true o = refl
+  map_without false o = refl
+
+  -- a head without a label makes a row without it
+  pub row_of-remove : (h : FinMap text_cmp Source) (k : List ℕ) → row_of (fin.remove h k) a b ≡ fin.remove (row_of h a b) k
+  row_of-remove h k =
+      fin.same_map nat_list_cmp_total text_same _ _ (λ q.
+      get-row_of (fin.remove h k) q
+      ∙ ap (option_map (value_at a b)) (fin.get-remove nat_list_cmp_total h k q)
+      ∙ map_without (eq_by_cmp text_cmp q k) (fin.get h q)
+      ∙ ap (λ o. cond (eq_by_cmp text_cmp q k) None o) (sym (get-row_of h q))
+      ∙ sym (fin.get-remove nat_list_cmp_total (row_of h a b) k q))
+
+  -- to change the head is to change the row
+  pub row_changed : (change : Change) (h g : FinMap text_cmp Source) (m : FinMap text_cmp Scalar) → row_of h a b ≡ m
+      → g ≡ changed_head change h → row_of g a b ≡ changed change m
+  row_changed (Set label value) h g m view is = row_with h g m label (Fixed value) view is
+  row_changed (Remove label) h g m view is = ap (λ x. row_of x a b) is ∙ row_of-remove h label ∙ ap (λ n. fin.remove n label) view
+
   -- the labels of a row are its head's
   pub labels_are : (h : FinMap text_cmp Source) (m : FinMap text_cmp Scalar) → row_of h a b ≡ m → fin.keys h ≡ fin.keys m
   labels_are h m view = sym (keys-row_of h) ∙ ap fin.keys view
+
+-- an own value that one label has alone: to write it is to give the label that value
+module _ (a b c d : Scalar) (s : Source) (others : (t : Source) → (t ≡ s → ⊥) → value_at c d t ≡ value_at a b t) where
+  replaced_at : (h : FinMap text_cmp Source) (k q : List ℕ) → IsOnly h k s
+      → option_map (value_at c d) (fin.get h q) ≡ cond (eq_by_cmp text_cmp q k) (Some (value_at c d s)) (option_map (value_at a b) (fin.get h q))
+  replaced_at h k q o =
+      elim (eq_by_cmp text_cmp q k) as (λ t. eq_by_cmp text_cmp q k ≡ t
+      → option_map (value_at c d) (fin.get h q) ≡ cond t (Some (value_at c d s)) (option_map (value_at a b) (fin.get h q))) [
+        | true ↦ λ t. ap (option_map (value_at c d)) (ap (fin.get h) (text_same q k ((Equal-is _).0 t)) ∙ o.has)
+        | false ↦ λ t.
+            elim (fin.get h q) as (λ r. fin.get h q ≡ r → option_map (value_at c d) r ≡ option_map (value_at a b) r) [
+              | None ↦ λ is. refl
+              | Some x ↦ λ is. ap (λ (v : Scalar). Some v) (others x (λ e. apart q k t (o.only q (is ∙ ap (λ (y : Source). Some y) e))))
+            ] refl
+      ] refl
+
+  pub row_replaced : (h : FinMap text_cmp Source) (m : FinMap text_cmp Scalar) (k : List ℕ) → row_of h a b ≡ m → IsOnly h k s
+      → row_of h c d ≡ fin.insert m k (value_at c d s)
+  row_replaced h m k view o =
+      fin.same_map nat_list_cmp_total text_same _ _ (λ q.
+      get-row_of c d h q ∙ replaced_at h k q o
+      ∙ ap (cond (eq_by_cmp text_cmp q k) (Some (value_at c d s))) (sym (get-row_of a b h q) ∙ ap (λ n. fin.get n q) view)
+      ∙ sym (fin.get-insert nat_list_cmp_total m k (value_at c d s) q))
+
+keeps_second : (a b v : Scalar) (t : Source) → (t ≡ First → ⊥) → value_at v b t ≡ value_at a b t
+keeps_second a b v (Fixed x) n = refl
+keeps_second a b v First n = absurd (n refl)
+keeps_second a b v Second n = refl
+
+keeps_first : (a b v : Scalar) (t : Source) → (t ≡ Second → ⊥) → value_at a v t ≡ value_at a b t
+keeps_first a b v (Fixed x) n = refl
+keeps_first a b v First n = refl
+keeps_first a b v Second n = absurd (n refl)
+
+module _ (a b v : Scalar) (h : FinMap text_cmp Source) (m : FinMap text_cmp Scalar) (k : List ℕ) (view : row_of h a b ≡ m) where
+  pub first_replaced : IsOnly h k First → row_of h v b ≡ fin.insert m k v
+  first_replaced o = row_replaced a b v b First (keeps_second a b v) h m k view o
+
+  pub second_replaced : IsOnly h k Second → row_of h a v ≡ fin.insert m k v
+  second_replaced o = row_replaced a b a v Second (keeps_first a b v) h m k view o

@@ -1,7 +1,8 @@
 -- Slots as entries of a map from labels to sources.
-use Rattle.std.specs.Prelude.{ℕ, T, List, map}
+use Rattle.std.specs.Prelude.{ℕ, Bool, T, List, map, not, ◌||◌}
+use Rattle.std.specs.List.{list_all, filter}
 use Rattle.std.specs.FinMap.Entries.{is_sorted}
-use Rattle.fx_base.specs.Text.{text_cmp}
+use Rattle.fx_base.specs.Text.{text_cmp, same_text}
 use Rattle.fx_value.specs.declared.slot.Slot.{Slot}
 use Rattle.fx_value.specs.declared.source.Source.{Source}
 
@@ -18,3 +19,11 @@ IsRising es = T (is_sorted text_cmp es)
 
 abbrev pub labels_of : List Slot → List (List ℕ)
 labels_of = map (λ s. s.label)
+
+-- no slot with another label passes the test
+abbrev pub is_alone : (Source → Bool) → List ℕ → List Slot → Bool
+is_alone test label = list_all (λ s. not (test s.source) || same_text s.label label)
+
+-- the slots with other labels
+abbrev pub others : List ℕ → List Slot → List Slot
+others label = filter (λ s. not (same_text s.label label))

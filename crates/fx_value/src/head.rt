@@ -1,12 +1,25 @@
-ghost use Rattle.std.specs.Prelude.{◌≡◌, ◌↔◌, IfOk, IsTrue};
+ghost use Rattle.std.specs.Prelude.{◌≡◌, ◌↔◌, IfOk, IfSome, IsTrue};
 ghost use Rattle.std.specs.Option.{option_map};
 ghost use Rattle.std.specs.FinMap as map;
+ghost use Rattle.fx_value.specs.Own.{source_of};
+ghost use Rattle.fx_value.specs.Row.{IsOnly, shared};
 
-use crate::slot::{Slot, have_same_labels, labels_in, place_of, with_source};
+use crate::scalar::Scalar;
+use crate::slot::{
+    Slot, are_same, have_same_labels, is_first_alone, is_second_alone, labels_in, place_of,
+    shared_in, with_source, without_label,
+};
 use crate::source::Source;
 use fx_base::{List, Memory, Text};
 use std::alloc::Global;
 use std::marker::Model;
+
+/// Which of its own values a row gives.
+#[derive(Clone, Copy)]
+pub(crate) enum OwnPlace {
+    First,
+    Second,
+}
 
 /// The labels of the rows of a table, with the values that all of them share. Contracts see the
 /// map from labels to sources.
@@ -69,10 +82,43 @@ impl Head {
         labels_in(alloc, &self.slots)
     }
 
+    /// The labels whose value all rows share, with that value, rising by bytes.
+    pub fn shared(&self, alloc: Global) -> Result<Vec<(Text, Scalar)>, Memory>
+        ensures { IfOk result (λ v. v.items ≡ shared self.now) }
+    {
+        shared_in(alloc, &self.slots)
+    }
+
     /// Whether the heads have the same labels.
     pub fn same_labels(&self, other: &Head) -> bool
         ensures { IsTrue result ↔ (map.keys self.now ≡ map.keys other.now) }
     {
         have_same_labels(&self.slots, &other.slots)
+    }
+
+    /// Whether the heads are the same; false says nothing.
+    pub(crate) fn is_same(&self, other: &Head) -> bool
+        ensures { IsTrue result → self.now ≡ other.now }
+    {
+        are_same(&self.slots, &other.slots)
+    }
+
+    /// The head without this label.
+    pub fn without(&self, alloc: Global, label: &Text) -> Result<Head, Memory>
+        ensures { IfOk result (λ h. h ≡ map.remove self.now label.now) }
+    {
+        let slots = without_label(alloc, &self.slots, label)?;
+        Ok(Head { slots })
+    }
+
+    /// The own value of a row that this label has, if no other label has it.
+    pub(crate) fn own_place(&self, label: &Text) -> Option<OwnPlace>
+        ensures { IfSome result (λ own. IsOnly self.now label.now (source_of own)) }
+    {
+        match self.get(label) {
+            Some(Source::First) if is_first_alone(&self.slots, label) => Some(OwnPlace::First),
+            Some(Source::Second) if is_second_alone(&self.slots, label) => Some(OwnPlace::Second),
+            _ => None,
+        }
     }
 }

@@ -1,9 +1,11 @@
-ghost use Rattle.std.specs.Prelude.{◌≡◌, ◌↔◌, IfOk, OnOk, OnErr, IsTrue};
+ghost use Rattle.std.specs.Prelude.{◌≡◌, ◌↔◌, IfOk, IfSome, OnOk, OnErr, IsTrue};
 ghost use Rattle.std.specs.Option.{option_map};
 ghost use Rattle.std.specs.FinMap as map;
+ghost use Rattle.fx_value.specs.Change.{changed, IsReshape};
 ghost use Rattle.fx_value.specs.Row.{row_of};
 
-use crate::head::Head;
+use crate::change::{Change, Reshape};
+use crate::head::{Head, OwnPlace};
 use crate::scalar::Scalar;
 use crate::shape::Shape;
 use crate::source::Source;
@@ -82,17 +84,44 @@ impl Row {
         })
     }
 
-    /// Gives the label this value; a refusal leaves the row as it was.
+    /// Gives the label this value; a refusal leaves the row as it was. It takes no memory where the
+    /// label has one of the row's own values to itself.
     pub fn set(&mut self, alloc: Global, label: Text, value: Scalar) -> Result<(), Memory>
         ensures ok { OnOk result (self.new ≡ map.insert self.old label value) }
         ensures err { OnErr result (self.new ≡ self.old) }
     {
-        let head = self
-            .head
-            .as_ref()
-            .with(alloc, &label, Source::Fixed(value))?;
+        match self.head.as_ref().own_place(&label) {
+            Some(OwnPlace::First) => put(&mut self.first, value),
+            Some(OwnPlace::Second) => put(&mut self.second, value),
+            None => self.head = with_value(alloc, self.head.as_ref(), &label, value)?,
+        }
+        Ok(())
+    }
+
+    /// Takes the label out of the row; a refusal leaves the row as it was.
+    pub fn remove(&mut self, alloc: Global, label: &Text) -> Result<(), Memory>
+        ensures ok { OnOk result (self.new ≡ map.remove self.old label.now) }
+        ensures err { OnErr result (self.new ≡ self.old) }
+    {
+        let head = self.head.as_ref().without(alloc, label)?;
         self.head = Rc::new(alloc, head)?;
         Ok(())
+    }
+
+    /// Makes the change; rows whose heads are the same as the last one's share what it became.
+    pub(crate) fn change(
+        &mut self,
+        alloc: Global,
+        change: &Change,
+        last: Option<Reshape>,
+    ) -> Result<Reshape, Memory>
+        requires { IfSome last (IsReshape change.now) }
+        ensures row { OnOk result (self.new ≡ changed change.now self.old) }
+        ensures known { IfOk result (IsReshape change.now) }
+    {
+        let known = change.reshape(alloc, &self.head, last)?;
+        self.head = known.to.clone()?;
+        Ok(known)
     }
 
     /// The labels, rising by bytes.
@@ -108,4 +137,18 @@ impl Row {
     {
         self.head.as_ref().same_labels(other.head.as_ref())
     }
+}
+
+fn put(place: &mut Scalar, value: Scalar)
+    ensures { place.new ≡ value }
+{
+    *place = value;
+}
+
+/// The head in which all rows have this value at the label.
+fn with_value(alloc: Global, head: &Head, label: &Text, value: Scalar) -> Result<Rc<Head>, Memory>
+    ensures { IfOk result (λ h. h.value ≡ map.insert head.now label.now (Source.Fixed value)) }
+{
+    let head = head.with(alloc, label, Source::Fixed(value))?;
+    Ok(Rc::new(alloc, head)?)
 }

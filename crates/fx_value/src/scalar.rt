@@ -64,5 +64,4 @@ pub fn scalar_order(a: &Scalar, b: &Scalar) -> Ordering
 pub fn scalar_order_is_total()
     ensures total { IsTotalOrder scalar_cmp }
     ensures ties { IsAntisymmetric scalar_cmp }
-{
-}
+{}

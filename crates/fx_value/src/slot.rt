@@ -1,11 +1,15 @@
-ghost use Rattle.std.specs.Prelude.{◌≡◌, IfOk, MatchResult};
+ghost use Rattle.std.specs.Prelude.{◌≡◌, [], ◌∷◌, ◌++◌, IfOk, OnOk, IsTrue, MatchResult};
 ghost use Rattle.std.specs.Cmp.Lexicographic.{pointwise};
 ghost use Rattle.fx_base.specs.Text.{same_text};
 ghost use Rattle.std.specs.FinMap.Entries.{put};
 ghost use Rattle.fx_base.specs.Text.{text_cmp};
+ghost use Rattle.std.specs.List.{filter_map};
+ghost use Rattle.fx_value.specs.Row.{shared_cell};
 ghost use Rattle.fx_value.specs.Place.{StandsAt, BelongsAt};
-ghost use Rattle.fx_value.specs.Slots.{entries_of, labels_of};
+ghost use Rattle.fx_value.specs.Source.{is_first, is_second};
+ghost use Rattle.fx_value.specs.Slots.{entry_of, entries_of, labels_of, is_alone, others};
 
+use crate::scalar::Scalar;
 use crate::source::Source;
 use fx_base::{List, Memory, Text};
 use std::alloc::Global;
@@ -26,6 +30,25 @@ impl Slot {
             label: self.label.copy()?,
             source: self.source.copy()?,
         })
+    }
+
+    fn is_same(&self, other: &Slot) -> bool
+        ensures { IsTrue result → self.now ≡ other.now }
+    {
+        self.label == other.label && self.source.is_same(&other.source)
+    }
+
+    /// Adds the label and the value, where all rows share it.
+    fn share(&self, cells: &mut Vec<(Text, Scalar)>) -> Result<(), Memory>
+        ensures { OnOk result (cells.new.items ≡ cells.old.items ++ filter_map shared_cell (entry_of self.now ∷ [])) }
+    {
+        match &self.source {
+            Source::Fixed(value) => {
+                cells.push((self.label.copy()?, value.copy()?))?;
+                Ok(())
+            }
+            Source::First | Source::Second => Ok(()),
+        }
     }
 
     fn refill(&mut self, source: Source)
@@ -80,6 +103,17 @@ pub fn with_source(
     Ok(copies)
 }
 
+/// The labels of the slots whose value is shared, with that value, in their order.
+pub fn shared_in(alloc: Global, slots: &Vec<Slot>) -> Result<Vec<(Text, Scalar)>, Memory>
+    ensures { IfOk result (λ v. v.items ≡ filter_map shared_cell (entries_of slots.now.items)) }
+{
+    let mut cells = Vec::with_capacity(alloc, slots.len())?;
+    for slot in slots {
+        slot.share(&mut cells)?;
+    }
+    Ok(cells)
+}
+
 /// The labels of the slots, in their order.
 pub fn labels_in(alloc: Global, slots: &Vec<Slot>) -> Result<List<Text>, Memory>
     ensures { IfOk result (λ v. v ≡ labels_of slots.now.items) }
@@ -100,6 +134,52 @@ pub fn have_same_labels(slots: &Vec<Slot>, others: &Vec<Slot>) -> bool
     }
     for (i, slot) in slots.iter().enumerate() {
         if slot.label != others[i].label {
+            return false;
+        }
+    }
+    true
+}
+
+/// Whether no slot with another label has a row's first value as its source.
+pub fn is_first_alone(slots: &Vec<Slot>, label: &Text) -> bool
+    ensures { result ≡ is_alone is_first label.now slots.now.items }
+{
+    slots
+        .iter()
+        .all(|slot| !slot.source.is_first() || slot.label == *label)
+}
+
+/// Whether no slot with another label has a row's second value as its source.
+pub fn is_second_alone(slots: &Vec<Slot>, label: &Text) -> bool
+    ensures { result ≡ is_alone is_second label.now slots.now.items }
+{
+    slots
+        .iter()
+        .all(|slot| !slot.source.is_second() || slot.label == *label)
+}
+
+/// Copies of the slots with other labels.
+pub fn without_label(alloc: Global, slots: &Vec<Slot>, label: &Text) -> Result<Vec<Slot>, Memory>
+    ensures { IfOk result (λ v. v.items ≡ others label.now slots.now.items) }
+{
+    let mut kept = Vec::new(alloc);
+    for slot in slots {
+        if slot.label != *label {
+            kept.push(slot.copy()?)?;
+        }
+    }
+    Ok(kept)
+}
+
+/// Whether the slots are the same.
+pub fn are_same(slots: &Vec<Slot>, others: &Vec<Slot>) -> bool
+    ensures { IsTrue result → slots.now.items ≡ others.now.items }
+{
+    if slots.len() != others.len() {
+        return false;
+    }
+    for (i, slot) in slots.iter().enumerate() {
+        if !slot.is_same(&others[i]) {
             return false;
         }
     }

@@ -1,6 +1,7 @@
-ghost use Rattle.std.specs.Prelude.{◌≡◌, IfOk};
+ghost use Rattle.std.specs.Prelude.{◌≡◌, IfOk, IsTrue};
+ghost use Rattle.fx_value.specs.Source.{is_first, is_second};
 
-use crate::scalar::Scalar;
+use crate::scalar::{Scalar, scalar_order};
 use fx_base::Memory;
 
 /// Where rows that share their labels find the value of a label.
@@ -22,6 +23,29 @@ impl Source {
             Source::Fixed(value) => Ok(Source::Fixed(value.copy()?)),
             Source::First => Ok(Source::First),
             Source::Second => Ok(Source::Second),
+        }
+    }
+
+    pub fn is_first(&self) -> bool
+        ensures { result ≡ is_first self.now }
+    {
+        matches!(self, Source::First)
+    }
+
+    pub fn is_second(&self) -> bool
+        ensures { result ≡ is_second self.now }
+    {
+        matches!(self, Source::Second)
+    }
+
+    pub fn is_same(&self, other: &Source) -> bool
+        ensures { IsTrue result → self.now ≡ other.now }
+    {
+        match (self, other) {
+            (Source::Fixed(a), Source::Fixed(b)) => scalar_order(a, b).is_eq(),
+            (Source::First, Source::First) => true,
+            (Source::Second, Source::Second) => true,
+            _ => false,
         }
     }
 }

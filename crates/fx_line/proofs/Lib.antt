@@ -1,0 +1,7 @@
+pub mod Answered
+pub mod Digits
+pub mod Keys
+pub mod Runs
+pub mod Sorting
+pub mod Spelling
+pub mod Unique

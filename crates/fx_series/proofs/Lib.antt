@@ -1,0 +1,8 @@
+pub mod Between
+pub mod ByTime
+pub mod Entries
+pub mod Grouped
+pub mod MapPut
+pub mod Places
+pub mod Same
+pub mod Stands

@@ -1,0 +1,84 @@
+-- What a put into the map of series answers and leaves.
+use Rattle.std.proofs.Common.{◌≡◌, ℕ, zero, suc, ℤ, true, false, inr, List, [], ◌∷◌, map, Option, Some, None, Result, Ok, Err, OnOk, OnErr, position, slice_get, option_map, is_some, refl, sym, ap, ◌∙◌}
+use Rattle.std.specs.Ordering.{int_cmp}
+use Rattle.std.specs.BTreeMap.{insert_entry}
+use Rattle.std.specs.Map.{keys_of, values_of, lookup}
+use Rattle.std.proofs.lemmas.Bool.{false≢true}
+use Rattle.std.proofs.lemmas.List.Quantifiers.{position-Some}
+use Rattle.std.proofs.lemmas.Option.{slice_get-map, get_or_from_slice_get}
+use Rattle.indexmap.specs.IndexMap.{set_value_at}
+use Rattle.fx_value.specs.declared.scalar.Kind.{Kind}
+use Rattle.fx_value.specs.declared.scalar.Scalar.{Scalar}
+use Rattle.fx_value.specs.Scalar.{kind_of}
+use Rattle.fx_line.specs.Stored.{Series}
+use Rattle.fx_series.specs.declared.fault.PutFault.{PutFault}
+use Rattle.fx_series.specs.declared.fault.PutFault.TheVariants as fault
+use Rattle.fx_series.specs.declared.series.StoredKey.{StoredKey}
+use Rattle.fx_series.specs.declared.series.Held.{Held}
+use Rattle.fx_series.specs.Held.{id_of_key, shown, after_put, SeriesAnswers}
+use Rattle.fx_series.specs.HeldAnswers.{HeldAnswers}
+use Rattle.fx_series.proofs.Same.{same_from}
+use Rattle.fx_series.proofs.Entries.{same_key, put_at, kind_found}
+
+-- the series of a key stands at a number
+pub record Stands (es : List (StoredKey × Held)) (key : StoredKey) (number : ℕ) (stored : StoredKey) (held : Held) : Type 0 where
+  pub at : slice_get es number ≡ Some (stored, held)
+  pub place : Some number ≡ position (same_key key) (keys_of es)
+  pub value : slice_get (values_of es) number ≡ lookup (same_key key) es
+
+module _ (es : List (StoredKey × Held)) (key : StoredKey) (number : ℕ) (stored : StoredKey) (old new : Held) (stands : Stands es key number stored old) where
+  named : same_key key stored ≡ true
+  named =
+      let p = position-Some (same_key key) (keys_of es) number key (sym stands.place) in
+      let at = slice_get-map (λ e. e.0) es number ∙ ap (option_map (λ e. e.0)) stands.at in
+      sym (ap (same_key key) (get_or_from_slice_get (keys_of es) number stored key at)) ∙ p.1
+
+  found : lookup (same_key key) es ≡ Some old
+  found = sym stands.value ∙ slice_get-map (λ e. e.1) es number ∙ ap (option_map (λ e. e.1)) stands.at
+
+  pub put_ok : (time : ℤ) (value : Scalar) (result : Result (Unit {0}) PutFault) → new.kind ≡ old.kind
+      → OnOk result (new.values.entries ≡ insert_entry int_cmp old.values.entries time value)
+      → OnOk result (map shown (set_value_at es number new) ≡ after_put (id_of_key key) time value (map shown es))
+  put_ok time value (Ok u) kind values =
+      let p = position-Some (same_key key) (keys_of es) number key (sym stands.place) in
+      put_at key es number stored old new time value stands.at named p.2 kind values
+  put_ok time value (Err e) kind values = tt
+
+  pub answers_there : (kind : Kind) (value : Scalar) (result : Result (Unit {0}) PutFault) → kind_of value ≡ Some kind
+      → HeldAnswers number old.kind kind result → SeriesAnswers (map shown es) (id_of_key key) value result
+  answers_there kind value (Ok u) is answer = inr (kind_found key es old found ∙ ap Some answer ∙ sym is)
+  answers_there kind value (Err fault.NoBucket) is answer = absurd answer
+  answers_there kind value (Err (fault.KindConflict series was now)) is answer =
+      record {
+        found = shown (stored, old);
+        at = ap (slice_get (map shown es)) answer.0 ∙ slice_get-map shown es number ∙ ap (option_map shown) stands.at;
+        name = sym (same_from (id_of_key key) (id_of_key stored) named);
+        earlier = ap Some (sym answer.1);
+        later = is ∙ ap Some (sym answer.2);
+        differ = λ e. answer.3 (sym answer.1 ∙ e ∙ answer.2);
+      }
+  answers_there kind value (Err fault.Memory) is answer = tt
+
+-- a series that shows as before leaves the map as it was
+same_shown : (es : List (StoredKey × Held)) (number : ℕ) (stored : StoredKey) (old new : Held) → slice_get es number ≡ Some (stored, old)
+    → new.kind ≡ old.kind → new.values.entries ≡ old.values.entries → map shown (set_value_at es number new) ≡ map shown es
+same_shown [] number stored old new at kind values = cc
+same_shown (e ∷ es) zero stored old new at kind values =
+    let is : e.1 ≡ old = cc in
+    let held : Some new.kind ≡ Some e.1.kind = ap Some (kind ∙ sym (ap (λ h. h.kind) is)) in
+    let entries : new.values.entries ≡ e.1.values.entries = values ∙ sym (ap (λ h. h.values.entries) is) in
+    λ i. record { id = id_of_key e.0; kind = held i; values = entries i } ∷ map shown es
+same_shown (e ∷ es) (suc number) stored old new at kind values = ap (λ l. shown e ∷ l) (same_shown es number stored old new at kind values)
+
+pub put_err : (es : List (StoredKey × Held)) (number : ℕ) (stored : StoredKey) (old new : Held) → slice_get es number ≡ Some (stored, old)
+    → (result : Result (Unit {0}) PutFault) → new.kind ≡ old.kind → OnErr result (new.values.entries ≡ old.values.entries) → OnErr result (map shown (set_value_at es number new) ≡ map shown es)
+put_err es number stored old new at (Ok u) kind values = tt
+put_err es number stored old new at (Err e) kind values = same_shown es number stored old new at kind values
+
+pub none_from : {A : Type 0} (o : Option A) → false ≡ is_some o → o ≡ None
+none_from None h = refl
+none_from (Some x) h = absurd (false≢true h)
+
+-- the series with a number is the one that is held there
+pub shown_at : (es : List (StoredKey × Held)) (number : ℕ) (e : StoredKey × Held) (s : Series) → slice_get es number ≡ Some e → slice_get (map shown es) number ≡ Some s → shown e ≡ s
+shown_at es number e s at shows = let same : Some (shown e) ≡ Some s = sym (slice_get-map shown es number ∙ ap (option_map shown) at) ∙ shows in cc

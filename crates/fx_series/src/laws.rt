@@ -1,0 +1,24 @@
+//! What holds of the stored points of every store.
+ghost use Rattle.std.specs.Prelude.{◌≡◌, ℤ, List, map};
+ghost use Rattle.std.specs.Ordering.{int_cmp};
+ghost use Rattle.std.specs.List.{IsDistinct};
+ghost use Rattle.std.specs.List.Sorted.{IsStrictlySortedBy};
+ghost use Rattle.fx_line.specs.declared.point.Point.{Point};
+ghost use Rattle.fx_line.specs.Stored.{StoredPoint, same_id, by_time, grouped};
+ghost use Rattle.fx_series.specs.Laws.{last_at, value_at};
+
+/// The values of a series rise strictly in time.
+pub fn times_rise()
+    ensures { (points : List Point) → IsStrictlySortedBy int_cmp (map (λ v. v.0) (by_time points)) }
+{}
+
+/// At each time stands the value of the last point of that time, and none where there is no such
+/// point.
+pub fn last_point_stands()
+    ensures { (points : List Point) (time : ℤ) → value_at time (by_time points) ≡ last_at time points }
+{}
+
+/// No two series have the same name.
+pub fn names_differ()
+    ensures { (stored : List StoredPoint) → IsDistinct same_id (map (λ s. s.id) (grouped stored)) }
+{}

@@ -1,0 +1,119 @@
+ghost use Rattle.std.specs.Prelude.{◌≡◌, ◌^◌, ◌<◌, ◌≤◌, ◌+◌, [], Some, IsSome, IfOk, OnOk, OnErr, length, slice_get};
+ghost use Rattle.std.specs.Option.{option_map};
+ghost use Rattle.fx_value.specs.Scalar.{kind_of};
+ghost use Rattle.fx_line.specs.Stored.{Series};
+ghost use Rattle.fx_series.specs.Held.{id_of_key, shown, after_put, SeriesAnswers};
+ghost use Rattle.fx_series.specs.Read.{places, is_in, between, pairs};
+
+use crate::fault::PutFault;
+use crate::series::{Held, StoredKey, TimeValue};
+use fx_base::{List, Memory, Steps, Text};
+use fx_value::{Kind, Scalar};
+use indexmap::IndexMap;
+use std::alloc::Global;
+use std::marker::Model;
+use std::sync::ledger::Ledger;
+
+/// Series by name, in the order in which they came.
+#[derive(Drop)]
+pub(crate) struct SeriesMap {
+    entries: IndexMap<StoredKey, Held>,
+}
+
+impl Model for SeriesMap {
+    ghost use Rattle.std.specs.Prelude.{List, map};
+    ghost use Rattle.fx_line.specs.Stored.{Series};
+    ghost use Rattle.fx_series.specs.Held.{shown};
+
+    ghost Value = { List Series };
+
+    ghost view = { λ m. map shown m.entries.entries };
+}
+
+// Whether a series is in a bucket and of a kind.
+fn is_in(name: &StoredKey, held: &Held, bucket: &Text, kind: Kind) -> bool
+    ensures { result ≡ is_in bucket.now kind (shown (name.now, held.now)) }
+{
+    *bucket == name.bucket && held.kind == kind
+}
+
+impl SeriesMap {
+    pub(crate) fn empty(alloc: Global) -> SeriesMap
+        ensures { result ≡ [] }
+    {
+        SeriesMap {
+            entries: IndexMap::new(alloc),
+        }
+    }
+
+    /// Puts a value into the series with this name, or into a new one at the end.
+    pub(crate) fn put(&mut self, key: StoredKey, time: i64, value: Scalar) -> Result<(), PutFault>
+        requires few { length self.old < 2 ^ 32 }
+        requires kind { IsSome (kind_of value) }
+        ensures ok { OnOk result (self.new ≡ after_put (id_of_key key) time value self.old) }
+        ensures err { OnErr result (self.new ≡ self.old) }
+        ensures answers { SeriesAnswers self.old (id_of_key key) value result }
+    {
+        let kind = value.kind().unwrap();
+        match self.entries.get_index_of(&key) {
+            Some(number) => {
+                let (_, held) = self.entries.pair_mut(number);
+                held.put(number as u32, kind, time, value)
+            }
+            None => {
+                let held = Held::of(*self.entries.allocator(), kind, time, value)?;
+                self.entries.insert(key, held)?;
+                Ok(())
+            }
+        }
+    }
+
+    /// The name of the series with a number.
+    pub(crate) fn name(&self, number: u32) -> Option<&StoredKey>
+        ensures { option_map (λ k. id_of_key k.now) result ≡ option_map (λ s. s.id) (slice_get self.now number) }
+    {
+        match self.entries.get_index(number as usize) {
+            Some((key, _)) => Some(key),
+            None => None,
+        }
+    }
+
+    /// The numbers of the series in a bucket and of a kind.
+    pub(crate) fn numbers(
+        &self,
+        alloc: Global,
+        bucket: &Text,
+        kind: Kind,
+    ) -> Result<List<u32>, Memory>
+        requires { length self.now < 2 ^ 32 }
+        ensures { IfOk result (λ ns. ns ≡ places (is_in bucket.now kind) 0 self.now) }
+    {
+        let mut numbers = List::empty(alloc);
+        let mut number = 0;
+        for (key, held) in &self.entries {
+            if is_in(key, held, bucket, kind) {
+                numbers.push(number)?;
+            }
+            number += 1;
+        }
+        Ok(numbers)
+    }
+
+    /// The values of a series with `first <= time <= last`, by rising time.
+    pub(crate) fn read<L: Ledger>(
+        &self,
+        alloc: Global,
+        number: u32,
+        first: i64,
+        last: i64,
+        steps: &mut Steps<L>,
+    ) -> Result<List<TimeValue>, Memory>
+        requires { number < length self.now }
+        ensures values { (s : Series) → slice_get self.now number ≡ Some s → IfOk result (λ r. pairs r ≡ between first last s.values) }
+        ensures steps { IfOk result (λ r. steps.new ≡ steps.old + length r) }
+        ensures most { (s : Series) → slice_get self.now number ≡ Some s → OnErr result ((steps.old ≤ steps.new) × (steps.new ≤ steps.old + length (between first last s.values))) }
+    {
+        let (_, held) = self.entries.get_index(number as usize).unwrap();
+        held.read(alloc, first, last, steps)
+    }
+}

@@ -1,0 +1,90 @@
+-- Texts that are cut at a byte or behind a front.
+use Rattle.std.proofs.Common.{◌≡◌, ◌≢◌, ℕ, ◌+◌, ◌<◌, Bool, true, false, ◌==◌, ◌||◌, not, cond, List, [], ◌∷◌, ◌++◌, length, take, drop, refl, sym, ◌∙◌, ap, subst, arith, append_assoc, add_comm, zero, suc, add-one, nat_eq, Option, None, Some, take-append-drop}
+use Rattle.std.proofs.Math.Seq.{take-append_seam, drop-append_seam}
+use Rattle.std.proofs.lemmas.Grind.{common_steps}
+use Rattle.std.proofs.lemmas.Bool.{eqb-true}
+use Rattle.std.specs.List.{list_any, position_or_len, before_first, after_first, prefix_len}
+use Rattle.std.specs.Option.{MatchOption, IfSome, IfNone}
+use Rattle.std.specs.Cmp.Lexicographic.{pointwise, same_text, other_text}
+use denote.Ref.{Bor}
+use Rattle.fx_top.specs.Bytes.{IsFreeOf, lines_of, with_first}
+
+-- two texts with one front have one rest
+pub same_rest : (front a b : List ℕ) → front ++ a ≡ front ++ b → a ≡ b
+same_rest [] a b h = h
+same_rest (x ∷ front) a b h = same_rest front a b cc
+
+-- a text that begins with a front goes on with what is left behind it
+pub rest_is : (front rest : List ℕ) → drop (length front) (front ++ rest) ≡ rest
+rest_is front rest = drop-append_seam front rest
+
+-- a text is cut in one way at the first b
+pub same_cut : (b : ℕ) (front front' back back' : List ℕ) → IsFreeOf b front → IsFreeOf b front' → front ++ b ∷ back ≡ front' ++ b ∷ back' → (front ≡ front') × (back ≡ back')
+same_cut b [] [] back back' f f' h = (refl, cc)
+same_cut b [] (y ∷ front') back back' f f' h = absurd (grind (arith, common_steps, f', h))
+same_cut b (x ∷ front) [] back back' f f' h = absurd (grind (arith, common_steps, f, h))
+same_cut b (x ∷ front) (y ∷ front') back back' f f' h =
+    let free : IsFreeOf b front = grind (arith, common_steps, f) in
+    let free' : IsFreeOf b front' = grind (arith, common_steps, f') in
+    let tails : front ++ b ∷ back ≡ front' ++ b ∷ back' = cc in
+    let same = same_cut b front front' back back' free free' tails in
+    let firsts : x ≡ y = cc in
+    ((let fronts = same.0 in cc), same.1)
+
+-- a text that is free of b isn't cut at it
+pub not_cut : (b : ℕ) (front back : List ℕ) → IsFreeOf b (front ++ b ∷ back) → ⊥
+not_cut b [] back h = grind (arith, common_steps, h)
+not_cut b (x ∷ front) back h =
+    let free : IsFreeOf b (front ++ b ∷ back) = grind (arith, common_steps, h) in
+    not_cut b front back free
+
+parts_at : (b x : ℕ) (text : List ℕ) (here : Bool) (n : ℕ) → (x == b) ≡ here
+    → (n < length text → (text ≡ take n text ++ b ∷ drop (n + 1) text) × IsFreeOf b (take n text))
+    → cond (not here) (1 + n) 0 < length (x ∷ text)
+    → (x ∷ text ≡ take (cond (not here) (1 + n) 0) (x ∷ text) ++ b ∷ drop (cond (not here) (1 + n) 0 + 1) (x ∷ text)) × IsFreeOf b (take (cond (not here) (1 + n) 0) (x ∷ text))
+parts_at b x text true n e step h = let is : x ≡ b = eqb-true x b e in (rw is refl, refl)
+parts_at b x text false n e step h =
+    let below : n < length text = omega arith in
+    let parts = step below in
+    let whole : x ∷ text ≡ take (1 + n) (x ∷ text) ++ b ∷ drop (1 + n + 1) (x ∷ text) = rw (add_comm 1 n, add-one, add-one) (ap (λ t. x ∷ t) (rw add-one at parts.0)) in
+    let free : IsFreeOf b (take (1 + n) (x ∷ text)) = rw (add_comm 1 n, add-one, e) parts.1 in
+    (whole, free)
+
+-- the first b parts a text that holds one
+pub first_parts : (b : ℕ) (text : List ℕ) → position_or_len (λ a. a == b) text < length text → (text ≡ before_first (λ a. a == b) text ++ b ∷ after_first (λ a. a == b) text) × IsFreeOf b (before_first (λ a. a == b) text)
+first_parts b [] h = absurd (omega arith)
+first_parts b (x ∷ text) h = parts_at b x text (x == b) (position_or_len (λ a. a == b) text) refl (first_parts b text) h
+
+none_at : (b x : ℕ) (text : List ℕ) (here : Bool) → (x == b) ≡ here
+    → (position_or_len (λ a. a == b) text ≡ length text → IsFreeOf b text)
+    → cond (not here) (1 + position_or_len (λ a. a == b) text) 0 ≡ length (x ∷ text) → IsFreeOf b (x ∷ text)
+none_at b x text true e step h = absurd (omega arith)
+none_at b x text false e step h = let n : position_or_len (λ a. a == b) text ≡ length text = omega arith in rw e (step n)
+
+pub none_first : (b : ℕ) (text : List ℕ) → position_or_len (λ a. a == b) text ≡ length text → IsFreeOf b text
+none_first b [] h = refl
+none_first b (x ∷ text) h = none_at b x text (x == b) refl (none_first b text) h
+
+-- what a stripped front tells of the rest
+pub behind : (text front : List ℕ) (r : Option (Bor (List ℕ)))
+    → MatchOption r (pointwise nat_eq (take (length front) text) front ≡ false) (λ x. (pointwise nat_eq (take (length front) text) front ≡ true) × (x.now ≡ drop (length front) text) × (length x.now + length front ≡ length text))
+    → IfSome r (λ rest. text ≡ front ++ rest.now) × IfNone r ((rest : List ℕ) → text ≢ front ++ rest)
+behind text front None h = (tt, λ rest e. other_text (take (length front) text) front (sym h) (rw (e, take-append_seam) refl))
+behind text front (Some x) h = (rw h.1 (sym (take-append-drop (length front) text) ∙ ap (λ t. t ++ drop (length front) text) (same_text (take (length front) text) front (sym h.0))), tt)
+
+free_here : (b x : ℕ) (rest : List ℕ) → IsFreeOf b (x ∷ rest) → ((x == b) ≡ false) × IsFreeOf b rest
+free_here b x rest h = parts (x == b) (list_any (λ a. a == b) rest) h
+  where
+    parts : (p q : Bool) → (p || q) ≡ false → (p ≡ false) × (q ≡ false)
+    parts true q e = absurd (cc)
+    parts false q e = (refl, e)
+
+-- the first line ends at the first line feed
+pub lines_of-cut : (line rest : List ℕ) → IsFreeOf 10 line → lines_of (line ++ 10 ∷ rest) ≡ line ∷ lines_of rest
+lines_of-cut [] rest h = refl
+lines_of-cut (x ∷ line) rest h = let here = free_here 10 x line h in rw (here.0, lines_of-cut line rest here.1) refl
+
+-- a text without a line feed is one line
+pub lines_of-end : (text : List ℕ) → IsFreeOf 10 text → lines_of text ≡ text ∷ []
+lines_of-end [] h = refl
+lines_of-end (x ∷ text) h = let here = free_here 10 x text h in rw (here.0, lines_of-end text here.1) refl

@@ -1,0 +1,6 @@
+pub mod BytesLemmas
+pub mod ColumnKinds
+pub mod CommandLemmas
+pub mod ScriptLemmas
+pub mod LoadLemmas
+pub mod SourceLemmas

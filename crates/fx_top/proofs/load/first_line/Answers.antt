@@ -1,0 +1,10 @@
+use Rattle.std.proofs.Common.{◌≡◌, ◌∙◌, ap}
+use Rattle.fx_top.specs.Bytes.{lines_of}
+use Rattle.fx_top.proofs.BytesLemmas.{lines_of-cut, lines_of-end}
+use Rattle.fx_top.proofs.load.first_line.Goals as goal
+
+pub returns-in-Some-clause-lines : goal.returns-in-Some-clause-lines
+returns-in-Some-clause-lines c = ap lines_of c.in-Some.ensures.parts ∙ lines_of-cut c.in-Some.line.now c.in-Some.behind.now c.in-Some.ensures.first
+
+pub returns-in-None-clause-lines : goal.returns-in-None-clause-lines
+returns-in-None-clause-lines c = lines_of-end c.args.text.now c.in-None.ensures.none

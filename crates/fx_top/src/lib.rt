@@ -1,0 +1,17 @@
+//! The top call: a command line, files and a moment in, annotated CSV or a named refusal out.
+#![tactic(auto)]
+
+mod bytes;
+mod cause;
+mod command;
+mod labels;
+mod load;
+mod message;
+mod outcome;
+mod script;
+mod source;
+
+pub use cause::LineCause;
+pub use command::Command;
+pub use outcome::Outcome;
+pub use script::Query;

@@ -1,0 +1,130 @@
+ghost use Rattle.std.specs.Prelude.{◌≡◌, ℕ, ◌≤◌, ◌<◌, ◌+◌, ◌∷◌, List, true, length};
+ghost use Rattle.fx_line.specs.Stored.{StoredPoint, IsLawful};
+ghost use Rattle.fx_series.specs.Store.{StandsFor, is_added};
+ghost use Rattle.std.specs.Option.{option_map};
+ghost use Rattle.fx_top.specs.Bytes.{lines_of, lines_left, bytes_left};
+ghost use Rattle.fx_top.specs.Load.{IsReady, PointLoads, LineLoads, FileLoads, stop_at};
+
+use std::alloc::Global;
+
+use fx_base::Text;
+use fx_line::{LineFault, LineMode, Point, read_line};
+use fx_series::{PutFault, Store};
+
+use crate::bytes::cut;
+use crate::cause::LineCause;
+
+/// How many points a run may load in all.
+pub const MOST_POINTS: u64 = 4_194_304;
+
+/// Why a line's points were not stored.
+#[derive(Clone, Copy, Debug, PartialEq, Eq)]
+pub enum LineStop {
+    Refused(LineCause),
+    TooMany,
+    Memory,
+}
+
+impl LineStop {
+    /// The same of the line with this number.
+    fn at_line(self, line: u64) -> LoadStop
+        ensures { result ≡ stop_at line self }
+    {
+        match self {
+            LineStop::Refused(cause) => LoadStop::Line { line, cause },
+            LineStop::TooMany => LoadStop::TooMany { line },
+            LineStop::Memory => LoadStop::Memory,
+        }
+    }
+}
+
+/// Why a file's points were not all stored; lines count from 1.
+#[derive(Clone, Copy, Debug, PartialEq, Eq)]
+pub enum LoadStop {
+    Line { line: u64, cause: LineCause },
+    TooMany { line: u64 },
+    Memory,
+}
+
+/// Stores the points of a file's lines in a bucket, up to the first line that stops it.
+pub fn load_file(
+    alloc: Global,
+    file: &[u8],
+    bucket: &Text,
+    store: &mut Store,
+) -> Result<(), LoadStop>
+    requires bytes { length file.now ≤ 67108864 }
+    requires ready { IsReady store.old bucket.now }
+    ensures { (buckets : List (List ℕ)) (stored : List StoredPoint) → StandsFor store.old buckets stored → FileLoads buckets bucket.now file.now stored store.new result }
+{
+    let mut rest = Some(file);
+    let mut number: u64 = 0;
+    while let Some(text) = rest {
+        let (line, behind) = first_line(text);
+        number += 1;
+        match load_line(alloc, line, bucket, store) {
+            Ok(()) => {}
+            Err(stop) => return Err(stop.at_line(number)),
+        }
+        rest = behind;
+    }
+    Ok(())
+}
+
+/// The first line of a text, and what stands behind its line feed.
+fn first_line(text: &[u8]) -> (&[u8], Option<&[u8]>)
+    ensures lines { lines_of text.now ≡ result.0.now ∷ lines_left (option_map (λ t. t.now) result.1) }
+    ensures shorter { bytes_left (option_map (λ t. t.now) result.1) < length text.now + 1 }
+    ensures small { length result.0.now ≤ length text.now }
+{
+    match cut(text, b'\n') {
+        Some((line, behind)) => (line, Some(behind)),
+        None => (text, None),
+    }
+}
+
+/// Stores the points of one line in a bucket.
+fn load_line(
+    alloc: Global,
+    line: &[u8],
+    bucket: &Text,
+    store: &mut Store,
+) -> Result<(), LineStop>
+    requires bytes { length line.now ≤ 67108864 }
+    requires ready { IsReady store.old bucket.now }
+    ensures { (buckets : List (List ℕ)) (stored : List StoredPoint) → StandsFor store.old buckets stored → LineLoads buckets bucket.now line.now stored store.new result }
+{
+    let mode = LineMode {
+        factor: 1,
+        moment: 0,
+        skip_floats: false,
+    };
+    match read_line(alloc, line, mode) {
+        Ok(read) => match read.points.into_vec().pop() {
+            None => Ok(()),
+            Some(point) => put_point(point, bucket, store),
+        },
+        Err(LineFault::Refused(error)) => Err(LineStop::Refused(LineCause::Form(error))),
+        Err(LineFault::Memory) => Err(LineStop::Memory),
+    }
+}
+
+/// Stores one point in a bucket.
+fn put_point(point: Point, bucket: &Text, store: &mut Store) -> Result<(), LineStop>
+    requires lawful { IsLawful point }
+    requires added { is_added store.old.buckets bucket.now ≡ true }
+    requires few { store.old.puts ≤ MOST_POINTS }
+    ensures { (buckets : List (List ℕ)) (stored : List StoredPoint) → StandsFor store.old buckets stored → PointLoads buckets bucket.now point stored store.new result }
+{
+    if store.points() >= MOST_POINTS {
+        return Err(LineStop::TooMany);
+    }
+    match store.put(bucket, point) {
+        Ok(()) => Ok(()),
+        Err(PutFault::KindConflict { old, new, .. }) => {
+            Err(LineStop::Refused(LineCause::KindConflict { old, new }))
+        }
+        Err(PutFault::NoBucket) => Err(LineStop::Memory),
+        Err(PutFault::Memory) => Err(LineStop::Memory),
+    }
+}

@@ -1,0 +1,96 @@
+ghost use Rattle.std.specs.Prelude.{◌≡◌, ◌≢◌, ℕ, List, IfOk, ◌⊎◌};
+ghost use Rattle.fx_base.specs.Outside.{appended};
+ghost use Rattle.fx_top.specs.Message.{line_of, cause_text, error_text, fault_text, IsAtStart};
+
+use std::alloc::Global;
+
+use fx_base::{FaultKind, Memory, Sink, SinkFault};
+use fx_line::LineError;
+
+use crate::cause::LineCause;
+use crate::outcome::Outcome;
+
+/// Writes the outcome's line. A fault of the sink changes no outcome; want of memory does.
+pub fn tell<E: Sink>(alloc: Global, outcome: Outcome, err: &mut E) -> Outcome
+    requires start { IsAtStart outcome }
+    ensures kept { (result ≡ outcome) ⊎ (result ≡ Outcome.Memory) }
+    ensures said { (script : List ℕ) → result ≢ Outcome.Memory → E.faults err.new ≡ E.faults err.old → E.written err.new ≡ appended (E.written err.old) (line_of script result) }
+{
+    match message(alloc, &outcome) {
+        Err(Memory) => Outcome::Memory,
+        Ok(line) => match err.write(line.as_bytes()) {
+            Ok(()) | Err(SinkFault::Failed) => outcome,
+            Err(SinkFault::Memory) => Outcome::Memory,
+        },
+    }
+}
+
+/// The outcome's line on standard error.
+fn message(alloc: Global, outcome: &Outcome) -> Result<String, Memory>
+    requires start { IsAtStart outcome.now }
+    ensures { (script : List ℕ) → IfOk result (λ text. string_bytes text ≡ line_of script outcome.now) }
+{
+    match outcome {
+        Outcome::Done => Ok(String::new(alloc)),
+        Outcome::Usage => Ok(format!(in alloc; "usage: fluxrun COMMAND ARGUMENTS\n")?),
+        Outcome::FileFault { name } => Ok(format!(in alloc; "fluxrun: {name}: cannot read\n")?),
+        Outcome::TooLong { name, .. } => Ok(format!(in alloc; "fluxrun: {name}: too long\n")?),
+        Outcome::NotBuilt => Ok(format!(in alloc; "fluxrun: not built\n")?),
+        Outcome::Line { file, line, cause } => {
+            let cause = cause_name(cause);
+            Ok(format!(in alloc; "fluxrun: {file}:{line}: {cause}\n")?)
+        }
+        Outcome::Fault { fault } => {
+            let (line, column) = (1u64, 1u64);
+            let kind = fault_name(fault.kind);
+            Ok(format!(in alloc; "fluxrun: {line}:{column}: fault {kind}\n")?)
+        }
+        Outcome::SinkFault => Ok(format!(in alloc; "fluxrun: cannot write\n")?),
+        Outcome::Memory => Ok(format!(in alloc; "fluxrun: out of memory\n")?),
+        Outcome::TooMany { file, line } => {
+            Ok(format!(in alloc; "fluxrun: {file}:{line}: too many points\n")?)
+        }
+    }
+}
+
+fn cause_name(cause: &LineCause) -> &'static str
+    ensures { result.now ≡ cause_text cause.now }
+{
+    match cause {
+        LineCause::Form(error) => error_name(*error),
+        LineCause::KindConflict { .. } => "KindConflict",
+    }
+}
+
+fn error_name(error: LineError) -> &'static str
+    ensures { result.now ≡ error_text error }
+{
+    match error {
+        LineError::Syntax => "Syntax",
+        LineError::TooManyTags => "TooManyTags",
+        LineError::NameReserved => "NameReserved",
+        LineError::FloatField => "FloatField",
+        LineError::UintField => "UintField",
+        LineError::IntRange => "IntRange",
+        LineError::TimeRange => "TimeRange",
+    }
+}
+
+fn fault_name(kind: FaultKind) -> &'static str
+    ensures { result.now ≡ fault_text kind }
+{
+    match kind {
+        FaultKind::Overflow => "Overflow",
+        FaultKind::DivideByZero => "DivideByZero",
+        FaultKind::BadConversion => "BadConversion",
+        FaultKind::IndexRange => "IndexRange",
+        FaultKind::TimeRange => "TimeRange",
+        FaultKind::TooLarge => "TooLarge",
+        FaultKind::NullArgument => "NullArgument",
+        FaultKind::NoBucket => "NoBucket",
+        FaultKind::BadWindow => "BadWindow",
+        FaultKind::BadCount => "BadCount",
+        FaultKind::PivotName => "PivotName",
+        FaultKind::DuplicateYield => "DuplicateYield",
+    }
+}

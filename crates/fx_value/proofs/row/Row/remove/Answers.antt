@@ -1,0 +1,11 @@
+use Rattle.std.proofs.Common.{ap, ◌∙◌}
+use Rattle.std.specs.FinMap as map
+use Rattle.fx_value.specs.Row.{row_of}
+use Rattle.fx_value.proofs.Rows.{row_of-remove}
+use Rattle.fx_value.proofs.row.Row.remove.Goals as goal
+
+pub returns-clause-ok : goal.returns-clause-ok
+returns-clause-ok c =
+    ap (λ h. row_of h c.self.inside.first c.self.inside.second)
+    (c.in_ok-self-inside.ensures.ok ∙ c.in_ok-head.ensures ∙ ap (λ h. map.remove h c.args.label.now) c.as_ref.ensures)
+    ∙ row_of-remove c.self.inside.first c.self.inside.second _ _ ∙ ap (λ m. map.remove m c.args.label.now) c.self.view_is
