@@ -1,4 +1,5 @@
 pub mod BlockSteps
+pub mod Checked
 pub mod ColumnKinds
 pub mod Inserted
 pub mod LawfulRows

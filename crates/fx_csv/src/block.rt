@@ -106,7 +106,7 @@ fn may_share(a: Option<Kind>, b: Option<Kind>) -> bool
     }
 }
 
-fn same_kind(a: Kind, b: Kind) -> bool
+pub(crate) fn same_kind(a: Kind, b: Kind) -> bool
     ensures { result ≡ same_kind a b }
 {
     matches!(

@@ -46,7 +46,7 @@ fn first_kind(rows: &[Row], label: &Text) -> Option<Kind>
     None
 }
 
-fn kind_at(row: &Row, label: &Text) -> Option<Kind>
+pub(crate) fn kind_at(row: &Row, label: &Text) -> Option<Kind>
     ensures { result ≡ kind_of (unwrap_or (map.get row.now label.now) scalar.Null) }
 {
     match row.get(label) {

@@ -15,3 +15,6 @@ mod text;
 mod writer;
 
 pub use print::{print_yield, write_yield};
+
+#[cfg(test)]
+mod tests;
