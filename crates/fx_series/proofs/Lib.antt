@@ -6,3 +6,4 @@ pub mod MapPut
 pub mod Places
 pub mod Same
 pub mod Stands
+pub mod Unknown

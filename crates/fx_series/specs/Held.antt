@@ -12,6 +12,7 @@ use Rattle.fx_series.specs.declared.fault.PutFault.TheVariants as fault
 use Rattle.fx_series.specs.declared.series.StoredKey.{StoredKey}
 use Rattle.fx_series.specs.declared.series.Held.{Held}
 
+-- the name that a key of the store's map spells
 abbrev pub id_of_key : StoredKey → SeriesId
 id_of_key k = record { bucket = k.bucket; key = k.key }
 
@@ -19,6 +20,7 @@ id_of_key k = record { bucket = k.bucket; key = k.key }
 abbrev pub shown : StoredKey × Held → Series
 shown e = record { id = id_of_key e.0; kind = Some e.1.kind; values = e.1.values.entries }
 
+-- a series with one value
 abbrev pub new_series : SeriesId → ℤ → Scalar → Series
 new_series id time value = record { id = id; kind = kind_of value; values = (time, value) ∷ [] }
 

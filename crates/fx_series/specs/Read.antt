@@ -7,6 +7,7 @@ use Rattle.fx_value.specs.declared.scalar.Scalar.{Scalar}
 use Rattle.fx_line.specs.Stored.{Series}
 use Rattle.fx_series.specs.declared.series.TimeValue.{TimeValue}
 
+-- whether the kind of a series is this one
 abbrev pub same_kind : Option Kind → Kind → Bool
 same_kind (Some kind.Bool) kind.Bool = true
 same_kind (Some kind.Int) kind.Int = true

@@ -1,11 +1,14 @@
 //! What holds of the stored points of every store.
-ghost use Rattle.std.specs.Prelude.{◌≡◌, ℤ, List, map};
+ghost use Rattle.std.specs.Prelude.{◌≡◌, ℕ, ℤ, false, List, [], map, filter};
 ghost use Rattle.std.specs.Ordering.{int_cmp};
 ghost use Rattle.std.specs.List.{IsDistinct};
 ghost use Rattle.std.specs.List.Sorted.{IsStrictlySortedBy};
+ghost use Rattle.fx_value.specs.declared.scalar.Kind.{Kind};
 ghost use Rattle.fx_line.specs.declared.point.Point.{Point};
 ghost use Rattle.fx_line.specs.Stored.{StoredPoint, same_id, by_time, grouped};
 ghost use Rattle.fx_series.specs.Laws.{last_at, value_at};
+ghost use Rattle.fx_series.specs.Read.{is_in};
+ghost use Rattle.fx_series.specs.Store.{Kept, StandsFor, is_added};
 
 /// The values of a series rise strictly in time.
 pub fn times_rise()
@@ -21,4 +24,9 @@ pub fn last_point_stands()
 /// No two series have the same name.
 pub fn names_differ()
     ensures { (stored : List StoredPoint) → IsDistinct same_id (map (λ s. s.id) (grouped stored)) }
+{}
+
+/// A bucket that was not added has no series.
+pub fn unknown_buckets_are_empty()
+    ensures { (kept : Kept) (buckets : List (List ℕ)) (stored : List StoredPoint) → StandsFor kept buckets stored → (name : List ℕ) (kind : Kind) → is_added buckets name ≡ false → filter (is_in name kind) kept.series ≡ [] }
 {}

@@ -10,6 +10,6 @@ mod store;
 mod tests;
 
 pub use fault::PutFault;
-pub use laws::{last_point_stands, names_differ, times_rise};
+pub use laws::{last_point_stands, names_differ, times_rise, unknown_buckets_are_empty};
 pub use series::TimeValue;
 pub use store::Store;

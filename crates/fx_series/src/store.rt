@@ -88,7 +88,7 @@ impl Store {
         }
     }
 
-    /// Puts a point into a bucket. A point of the same series and time gives up its value.
+    /// Puts a point into a bucket. It replaces the value of an earlier point of its series and time.
     pub fn put(&mut self, bucket: &Text, point: Point) -> Result<(), PutFault>
         requires room { self.old.puts < 4294967295 }
         requires lawful { IsLawful point }
