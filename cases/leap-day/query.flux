@@ -1,0 +1,1 @@
+from(bucket: "b") |> range(start: 2024-02-29T00:00:00Z, stop: 2024-03-01T00:00:00Z)

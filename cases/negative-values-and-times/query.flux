@@ -1,0 +1,1 @@
+from(bucket: "b") |> range(start: 1969-12-31T23:59:00Z, stop: 1970-01-01T00:00:00Z)
