@@ -4,3 +4,4 @@ pub mod CommandLemmas
 pub mod ScriptLemmas
 pub mod LoadLemmas
 pub mod SourceLemmas
+pub mod AnswerLemmas

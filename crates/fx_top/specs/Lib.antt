@@ -1,3 +1,4 @@
+pub mod Answer
 pub mod Bytes
 pub mod Command
 pub mod Labels
@@ -5,3 +6,4 @@ pub mod Load
 pub mod Message
 pub mod Run
 pub mod Script
+pub mod Stage

@@ -8,6 +8,7 @@ mod labels;
 mod load;
 mod message;
 mod outcome;
+mod run;
 mod script;
 mod source;
 

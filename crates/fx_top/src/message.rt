@@ -1,5 +1,5 @@
-ghost use Rattle.std.specs.Prelude.{◌≡◌, ◌≢◌, ℕ, List, IfOk, ◌⊎◌};
-ghost use Rattle.fx_base.specs.Outside.{appended};
+ghost use Rattle.std.specs.Prelude.{◌≡◌, ◌≢◌, ℕ, List, IfOk, ◌⊎◌, string_bytes};
+ghost use Rattle.fx_base.specs.Outside.{appended, Rose};
 ghost use Rattle.fx_top.specs.Message.{line_of, cause_text, error_text, fault_text, IsAtStart};
 
 use std::alloc::Global;
@@ -14,12 +14,13 @@ use crate::outcome::Outcome;
 pub fn tell<E: Sink>(alloc: Global, outcome: Outcome, err: &mut E) -> Outcome
     requires start { IsAtStart outcome }
     ensures kept { (result ≡ outcome) ⊎ (result ≡ Outcome.Memory) }
-    ensures said { (script : List ℕ) → result ≢ Outcome.Memory → E.faults err.new ≡ E.faults err.old → E.written err.new ≡ appended (E.written err.old) (line_of script result) }
+    ensures said { (script : List ℕ) → result ≢ Outcome.Memory → (Rose (E.faults err.old) (E.faults err.new) → ⊥) → E.written err.new ≡ appended (E.written err.old) (line_of script result) }
 {
     match message(alloc, &outcome) {
         Err(Memory) => Outcome::Memory,
         Ok(line) => match err.write(line.as_bytes()) {
-            Ok(()) | Err(SinkFault::Failed) => outcome,
+            Ok(()) => outcome,
+            Err(SinkFault::Failed) => outcome,
             Err(SinkFault::Memory) => Outcome::Memory,
         },
     }

@@ -1,0 +1,59 @@
+-- What the stages of a run answer, each for the part that it sees.
+use Rattle.std.specs.Prelude.{◌≡◌, ℕ, ◌+◌, ◌≤◌, List, ◌∷◌, [], length, take, Option, Result, Ok, Err, ◌⊎◌}
+use Rattle.std.specs.declared.vec.Vec.{Vec}
+use Rattle.std.specs.declared.alloc.Global.{Global}
+use Rattle.fx_base.specs.Outside.{Told, Rose, appended}
+use Rattle.fx_data.specs.declared.table.Table.{Table}
+use Rattle.fx_line.specs.Stored.{StoredPoint}
+use Rattle.fx_top.specs.declared.command.Command.{Command}
+use Rattle.fx_top.specs.declared.script.Query.{Query}
+use Rattle.fx_top.specs.declared.outcome.Outcome.{Outcome}
+use Rattle.fx_top.specs.declared.outcome.Outcome.TheVariants as outcome
+use Rattle.fx_series.specs.Store.{Kept, StandsFor}
+use Rattle.fx_top.specs.declared.load.LoadStop.{LoadStop}
+use Rattle.fx_top.specs.declared.load.LoadStop.TheVariants as load_stop
+use Rattle.fx_top.specs.Answer.{IsTold, IsLong, yield_text, EndsAs}
+use Rattle.fx_top.specs.Run.{run_of}
+
+-- a load over files that tell their content
+abbrev pub FileAnswers : Told → List ℕ → ℕ → Result (Vec ℕ Global) Outcome → Type 0
+FileAnswers told name limit (Ok bytes) = IsTold told name limit bytes.items
+FileAnswers told name limit (Err (outcome.FileFault n)) = n ≡ name
+FileAnswers told name limit (Err (outcome.TooLong n taken)) = IsLong told name limit × (n ≡ name) × (taken ≡ limit + 1)
+FileAnswers told name limit (Err outcome.Memory) = Unit {0}
+FileAnswers told name limit (Err o) = ⊥
+
+-- a load over any files
+abbrev pub FileCauses : List ℕ → ℕ → ℕ → ℕ → Result (Vec ℕ Global) Outcome → Type 0
+FileCauses name limit files files' (Ok bytes) = (files' ≡ files) × (length bytes.items ≤ limit)
+FileCauses name limit files files' (Err (outcome.FileFault n)) = Rose files files' × (n ≡ name)
+FileCauses name limit files files' (Err (outcome.TooLong n taken)) = files' ≡ files
+FileCauses name limit files files' (Err outcome.Memory) = Unit {0}
+FileCauses name limit files files' (Err o) = ⊥
+
+-- the causes of a run's answers by the count of the sink's faults
+abbrev pub RunCauses : ℕ → ℕ → Outcome → Type 0
+RunCauses out out' outcome.SinkFault = Rose out out'
+RunCauses out out' outcome.Memory = Unit {0}
+RunCauses out out' o = out' ≡ out
+
+-- a query over stored points, by what was written
+abbrev pub DataAnswers : Query → List (List ℕ) → List StoredPoint → Option (List ℕ) → Option (List ℕ) → Outcome → Type 0
+DataAnswers q buckets stored old new outcome.Done = (tables : List Table) × (run_of q buckets stored ≡ Ok tables) × (new ≡ appended old (yield_text tables))
+DataAnswers q buckets stored old new (outcome.Fault fault) = (run_of q buckets stored ≡ Err fault) × (new ≡ old)
+DataAnswers q buckets stored old new outcome.SinkFault = (tables : List Table) × (n : ℕ) × (run_of q buckets stored ≡ Ok tables) × (new ≡ appended old (take n (yield_text tables)))
+DataAnswers q buckets stored old new outcome.Memory = (new ≡ old) ⊎ ((tables : List Table) × (n : ℕ) × (run_of q buckets stored ≡ Ok tables) × (new ≡ appended old (take n (yield_text tables))))
+DataAnswers q buckets stored old new o = ⊥
+
+-- the answer that a load of a file stopped
+abbrev pub StopAnswers : LoadStop → List ℕ → Outcome → Type 0
+StopAnswers stop file outcome.Memory = Unit {0}
+StopAnswers (load_stop.Line number cause) file (outcome.Line f n c) = (f ≡ file) × (n ≡ number) × (c ≡ cause)
+StopAnswers (load_stop.TooMany number) file (outcome.TooMany f n) = (f ≡ file) × (n ≡ number)
+StopAnswers stop file o = ⊥
+
+-- a store that stands for stored points
+pub record IsKept (kept : Kept) : Type 0 where
+  pub buckets : List (List ℕ)
+  pub stored : List StoredPoint
+  pub stands : StandsFor kept buckets stored
