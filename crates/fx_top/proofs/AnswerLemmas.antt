@@ -1,10 +1,10 @@
 -- How the answers of the stages make those of the whole.
-use Rattle.std.proofs.Common.{◌≡◌, ℕ, ◌+◌, ◌≤◌, List, [], ◌∷◌, ◌++◌, length, take, Option, None, Some, Result, Ok, Err, refl, sym, ◌∙◌, ap, subst, append-nil, inl, inr, true, arith}
+use Rattle.std.proofs.Common.{◌≡◌, ℕ, List, [], ◌∷◌, length, take, Option, None, Some, Ok, Err, refl, sym, ◌∙◌, ap, subst, append-nil, inl, inr, Bool, true, false, arith, if◌then◌else◌}
 use Rattle.std.specs.Cmp.Lexicographic.{nat_list_eq_equiv}
 use Rattle.fx_base.specs.Text.{same_text}
 use Rattle.std.proofs.Math.Seq.{take-length}
 use Rattle.std.specs.Prelude.{◌⊎◌}
-use Rattle.fx_base.specs.Outside.{Told, Rose, appended}
+use Rattle.fx_base.specs.Outside.{Told, appended}
 use Rattle.fx_line.specs.Stored.{StoredPoint}
 use Rattle.fx_series.specs.Store.{Kept, StandsFor}
 use Rattle.fx_top.specs.declared.command.Command.{Command}
@@ -13,12 +13,18 @@ use Rattle.fx_top.specs.declared.load.LoadStop.{LoadStop}
 use Rattle.fx_top.specs.declared.load.LoadStop.TheVariants as load_stop
 use Rattle.fx_top.specs.declared.outcome.Outcome.{Outcome}
 use Rattle.fx_top.specs.declared.outcome.Outcome.TheVariants as outcome
-use Rattle.fx_top.specs.declared.run.TheConstants.{MOST_SCRIPT_BYTES, MOST_FILE_BYTES}
+use Rattle.fx_top.specs.declared.run.TheConstants.{MOST_FILE_BYTES}
 use Rattle.fx_top.specs.Bytes.{lines_of}
 use Rattle.fx_top.specs.Command.{IsCommand}
 use Rattle.fx_top.specs.Load.{IsReady, Reads, FileLoads, StopsAt, IsCause}
-use Rattle.fx_top.specs.Run.{run_of}
-use Rattle.fx_top.specs.Answer.{Answers, Asks, Causes, EndsAs, IsTold, IsLong, NamesFile, Reaches, Runs, Writes, Yields, yield_text}
+use Rattle.fx_top.specs.Run.{tables_of}
+use Rattle.fx_top.specs.Answer.{Answers, Asks, Causes, EndsAs, IsTold, IsLong, NamesFile, Reaches, Runs, Writes, yield_text}
+use Rattle.fx_base.specs.declared.fault.Fault.{Fault}
+use Rattle.fx_base.specs.declared.fault.FaultKind.TheVariants.{NoBucket}
+use Rattle.fx_data.specs.declared.table.Table.{Table}
+use Rattle.fx_line.specs.Stored.{grouped}
+use Rattle.fx_series.specs.Store.{is_added}
+use Rattle.fx_top.specs.Message.{IsAtStart}
 use Rattle.fx_top.specs.Stage.{DataAnswers, FileAnswers, FileCauses, RunCauses, StopAnswers}
 
 -- nothing more is written by no bytes
@@ -249,3 +255,43 @@ new_is_ready bucket kept stands = record {
   added = rw (stands.buckets_are, same_as_itself bucket) refl;
   few = rw stands.puts_are (omega arith);
 }
+
+-- ---- the place of a fault
+
+fault_start : (b : Bool) (tables : List Table) (fault : Fault) → (if b then Ok tables else Err (record { kind = NoBucket; place = record { at = 0 } })) ≡ Err fault → fault.place.at ≡ 0
+fault_start true tables fault h = cc
+fault_start false tables fault h = let is : record { kind = NoBucket; place = record { at = 0 } } ≡ fault = cc in ap (λ (f : Fault). f.place.at) (sym is)
+
+pub ends_start : (c : Command) (q : Query) (file : List ℕ) (old new : Option (List ℕ)) (o : Outcome) → EndsAs c q file old new o → IsAtStart o
+ends_start c q file old new (outcome.Fault fault) h = fault_start (is_added (c.bucket ∷ []) q.bucket) (tables_of q (grouped h.0)) fault h.2
+ends_start c q file old new outcome.Done h = tt
+ends_start c q file old new (outcome.Line name number cause) h = tt
+ends_start c q file old new (outcome.TooMany name number) h = tt
+ends_start c q file old new outcome.SinkFault h = tt
+ends_start c q file old new outcome.Memory h = tt
+ends_start c q file old new outcome.Usage h = tt
+ends_start c q file old new (outcome.FileFault name) h = tt
+ends_start c q file old new (outcome.TooLong name taken) h = tt
+ends_start c q file old new outcome.NotBuilt h = tt
+
+pub file_start : (name : List ℕ) (limit files files' : ℕ) (o : Outcome) → FileCauses name limit files files' (Err o) → IsAtStart o
+file_start name limit files files' (outcome.Fault fault) h = absurd h
+file_start name limit files files' outcome.Done h = tt
+file_start name limit files files' (outcome.Line n number cause) h = tt
+file_start name limit files files' (outcome.TooMany n number) h = tt
+file_start name limit files files' outcome.SinkFault h = tt
+file_start name limit files files' outcome.Memory h = tt
+file_start name limit files files' outcome.Usage h = tt
+file_start name limit files files' (outcome.FileFault n) h = tt
+file_start name limit files files' (outcome.TooLong n taken) h = tt
+file_start name limit files files' outcome.NotBuilt h = tt
+
+-- ---- the answer that was told
+
+pub told_answers : (told : Told) (words : List (List ℕ)) (old new : Option (List ℕ)) (o r : Outcome) → ((r ≡ o) ⊎ (r ≡ outcome.Memory)) → Answers told words old new o → Answers told words old new r
+told_answers told words old new o r (inl e) h = subst (λ a. Answers told words old new a) (sym e) h
+told_answers told words old new o r (inr e) h = subst (λ a. Answers told words old new a) (sym e) (forget_answers told words old new o h)
+
+pub told_writes : (old new : Option (List ℕ)) (o r : Outcome) → ((r ≡ o) ⊎ (r ≡ outcome.Memory)) → Writes old new o → Writes old new r
+told_writes old new o r (inl e) h = subst (λ a. Writes old new a) (sym e) h
+told_writes old new o r (inr e) h = subst (λ a. Writes old new a) (sym e) (forget_writes old new o h)

@@ -1,13 +1,13 @@
 -- Texts that are cut at a byte or behind a front.
-use Rattle.std.proofs.Common.{◌≡◌, ◌≢◌, ℕ, ◌+◌, ◌<◌, Bool, true, false, ◌==◌, ◌||◌, not, cond, List, [], ◌∷◌, ◌++◌, length, take, drop, refl, sym, ◌∙◌, ap, subst, arith, append_assoc, add_comm, zero, suc, add-one, nat_eq, Option, None, Some, take-append-drop}
+use Rattle.std.proofs.Common.{◌≡◌, ◌≢◌, ℕ, ◌+◌, ◌<◌, Bool, true, false, ◌==◌, ◌||◌, not, cond, List, [], ◌∷◌, ◌++◌, length, take, drop, refl, sym, ◌∙◌, ap, arith, add_comm, add-one, nat_eq, Option, None, Some, take-append-drop}
 use Rattle.std.proofs.Math.Seq.{take-append_seam, drop-append_seam}
 use Rattle.std.proofs.lemmas.Grind.{common_steps}
 use Rattle.std.proofs.lemmas.Bool.{eqb-true}
-use Rattle.std.specs.List.{list_any, position_or_len, before_first, after_first, prefix_len}
+use Rattle.std.specs.List.{list_any, position_or_len, before_first, after_first}
 use Rattle.std.specs.Option.{MatchOption, IfSome, IfNone}
 use Rattle.std.specs.Cmp.Lexicographic.{pointwise, same_text, other_text}
 use denote.Ref.{Bor}
-use Rattle.fx_top.specs.Bytes.{IsFreeOf, lines_of, with_first}
+use Rattle.fx_top.specs.Bytes.{IsFreeOf, lines_of}
 
 -- two texts with one front have one rest
 pub same_rest : (front a b : List ℕ) → front ++ a ≡ front ++ b → a ≡ b

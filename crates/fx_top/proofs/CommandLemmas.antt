@@ -1,5 +1,5 @@
 -- The words of a command line.
-use Rattle.std.proofs.Common.{◌≡◌, ◌<◌, ◌≤◌, ℕ, ◌==◌, Bool, true, false, ◌≢◌, List, [], ◌∷◌, ◌++◌, length, Option, None, Some, arith, sym, ◌∙◌, refl, subst, get_or, Result, Ok, Err, IfOk, codes, ap}
+use Rattle.std.proofs.Common.{◌≡◌, ◌<◌, ◌≤◌, ℕ, ◌==◌, true, List, [], ◌∷◌, ◌++◌, length, Option, None, Some, arith, sym, ◌∙◌, refl, subst, get_or, Result, Ok, Err, IfOk, codes}
 use Rattle.std.specs.Option.{MatchOption, IfSome, IfNone}
 use Rattle.std.specs.List.{position_or_len, before_first, after_first}
 use Rattle.fx_base.specs.declared.memory.Memory.{Memory}

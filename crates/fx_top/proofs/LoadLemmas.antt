@@ -1,5 +1,5 @@
 -- Loading points and lines.
-use Rattle.std.proofs.Common.{◌≡◌, ℕ, ◌+◌, ◌<◌, ◌≤◌, List, [], ◌∷◌, ◌++◌, length, Result, Ok, Err, refl, sym, ◌∙◌, ap, arith, length-append, append-nil, append_assoc, Option, None, Some, subst, true}
+use Rattle.std.proofs.Common.{◌≡◌, ℕ, ◌+◌, ◌≤◌, List, [], ◌∷◌, ◌++◌, length, Result, Ok, Err, refl, sym, ◌∙◌, ap, arith, length-append, append-nil, append_assoc, Option, None, subst, true}
 use Rattle.fx_line.specs.declared.point.Point.{Point}
 use Rattle.fx_line.specs.Line.{Gives}
 use Rattle.fx_line.specs.Stored.{StoredPoint}
@@ -8,7 +8,7 @@ use Rattle.fx_top.specs.declared.cause.LineCause.TheVariants as cause
 use Rattle.fx_top.specs.declared.load.LineStop.{LineStop}
 use Rattle.fx_top.specs.declared.load.LineStop.TheVariants as line_stop
 use Rattle.fx_top.specs.Bytes.{lines_of, lines_left}
-use Rattle.fx_top.specs.Load.{IsReady, PointLoads, LineLoads, FileLoads, Takes, Reads, StopsAt, IsCause, IsTooMany, stop_at}
+use Rattle.fx_top.specs.Load.{IsReady, PointLoads, LineLoads, FileLoads, Takes, Reads, StopsAt, stop_at}
 
 -- what a put of a line's one point leaves is what the line leaves
 pub line_of_point : (buckets : List (List ℕ)) (bucket line : List ℕ) (p : Point) (before : List StoredPoint) (kept : Kept) (r : Result (Unit {0}) LineStop)

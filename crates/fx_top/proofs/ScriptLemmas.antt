@@ -1,5 +1,5 @@
 -- The form of a script, and what its readers find.
-use Rattle.std.proofs.Common.{◌≡◌, ◌≢◌, ℕ, ℤ, ◌+◌, ◌<◌, Bool, true, false, ◌==◌, List, [], ◌∷◌, ◌++◌, length, take, drop, Option, None, Some, refl, sym, ◌∙◌, ap, arith, subst, take-append-drop, codes, ◌&&◌, zero, suc, lit<}
+use Rattle.std.proofs.Common.{◌≡◌, ◌≢◌, ℕ, ℤ, ◌<◌, Bool, true, false, ◌==◌, List, [], ◌∷◌, ◌++◌, length, Option, None, Some, refl, sym, ◌∙◌, arith, subst, take-append-drop, codes, ◌&&◌, zero, suc, lit<}
 use Rattle.std.specs.Option.{IfNone}
 use Rattle.std.specs.List.{IsSplitAt, list_all}
 use Rattle.std.proofs.lemmas.List.{append_cancel_left}
@@ -7,12 +7,12 @@ use Rattle.std.proofs.lemmas.Bool.{eqb-true}
 use Rattle.std.proofs.lemmas.Bool.Decides.{nat_tests}
 use Rattle.std.proofs.lemmas.Str.{IsUtf8-from_ascii}
 use Rattle.std.proofs.Math.Seq.{take-length}
-use Rattle.std.specs.Str.{IsAscii, IsUtf8, IsValidUpTo}
+use Rattle.std.specs.Str.{IsAscii, IsValidUpTo}
 use Rattle.fx_top.specs.Bytes.{IsFreeOf}
 use Rattle.fx_top.proofs.BytesLemmas.{same_cut, not_cut}
 use Rattle.std.proofs.Math.Seq.{take-append_seam, drop-append_seam}
 use Rattle.fx_time.specs.Time.{IsTime}
-use Rattle.fx_top.specs.Script.{IsFrom, IsMoment, IsRange, IsEnd, is_name_byte}
+use Rattle.fx_top.specs.Script.{IsFrom, IsMoment, IsRange, is_name_byte}
 
 pub if_none : {A : Type 0} (o : Option A) (P : Type 0) → P → IfNone o P
 if_none None P p = p

@@ -1,6 +1,6 @@
 -- The tables of a query.
-use Rattle.std.proofs.Common.{◌≡◌, ℕ, ℤ, ◌+◌, ◌<◌, ◌≤◌, Bool, true, false, ◌&&◌, List, [], ◌∷◌, ◌++◌, map, filter, length, take, get_or, cond, refl, sym, ◌∙◌, ap, subst, arith, pos, zero, suc}
-use Rattle.std.specs.Prelude.{int_le, int_lt, ◌≤ℤ◌, ◌<ℤ◌, ◌-ℤ◌, Option, None, Some}
+use Rattle.std.proofs.Common.{◌≡◌, ℕ, ℤ, ◌+◌, ◌<◌, ◌≤◌, Bool, true, false, ◌&&◌, List, [], ◌∷◌, ◌++◌, map, filter, length, take, get_or, cond, refl, ◌∙◌, ap, arith, pos, zero, suc}
+use Rattle.std.specs.Prelude.{int_le, int_lt, ◌≤ℤ◌, ◌-ℤ◌, Some}
 use Rattle.std.specs.List.{slice_get}
 use Rattle.std.proofs.lemmas.Int.{ints}
 use Rattle.fx_value.specs.declared.scalar.Scalar.{Scalar}

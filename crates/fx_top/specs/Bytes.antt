@@ -1,5 +1,5 @@
 -- Bytes that a byte divides.
-use Rattle.std.specs.Prelude.{◌+◌, length, Option, None, Some, ◌≡◌, ℕ, Bool, false, ◌==◌, List, [], ◌∷◌, if◌then◌else◌}
+use Rattle.std.specs.Prelude.{◌+◌, length, Option, None, Some, ◌≡◌, ℕ, false, ◌==◌, List, [], ◌∷◌, if◌then◌else◌}
 use Rattle.std.specs.List.{list_any}
 
 -- no byte of the text is b

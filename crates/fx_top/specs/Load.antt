@@ -1,7 +1,5 @@
 -- What the lines of a file make of the stored points, and where the first line stands that stops a load.
 use Rattle.std.specs.Prelude.{◌≡◌, ℕ, true, ◌+◌, ◌<◌, ◌≤◌, List, [], ◌∷◌, ◌++◌, length, map, Result, Ok, Err}
-use Rattle.fx_value.specs.declared.scalar.Kind.{Kind}
-use Rattle.fx_line.specs.declared.line.LineError.{LineError}
 use Rattle.fx_line.specs.declared.point.Point.{Point}
 use Rattle.fx_line.specs.Line.{Gives, IsRefused}
 use Rattle.fx_line.specs.Stored.{StoredPoint}

@@ -1,18 +1,17 @@
 -- What the stages of a run answer, each for the part that it sees.
-use Rattle.std.specs.Prelude.{◌≡◌, ℕ, ◌+◌, ◌≤◌, List, ◌∷◌, [], length, take, Option, Result, Ok, Err, ◌⊎◌}
+use Rattle.std.specs.Prelude.{◌≡◌, ℕ, ◌+◌, ◌≤◌, List, length, take, Option, Result, Ok, Err, ◌⊎◌}
 use Rattle.std.specs.declared.vec.Vec.{Vec}
 use Rattle.std.specs.declared.alloc.Global.{Global}
 use Rattle.fx_base.specs.Outside.{Told, Rose, appended}
 use Rattle.fx_data.specs.declared.table.Table.{Table}
 use Rattle.fx_line.specs.Stored.{StoredPoint}
-use Rattle.fx_top.specs.declared.command.Command.{Command}
 use Rattle.fx_top.specs.declared.script.Query.{Query}
 use Rattle.fx_top.specs.declared.outcome.Outcome.{Outcome}
 use Rattle.fx_top.specs.declared.outcome.Outcome.TheVariants as outcome
 use Rattle.fx_series.specs.Store.{Kept, StandsFor}
 use Rattle.fx_top.specs.declared.load.LoadStop.{LoadStop}
 use Rattle.fx_top.specs.declared.load.LoadStop.TheVariants as load_stop
-use Rattle.fx_top.specs.Answer.{IsTold, IsLong, yield_text, EndsAs}
+use Rattle.fx_top.specs.Answer.{IsTold, IsLong, yield_text}
 use Rattle.fx_top.specs.Run.{run_of}
 
 -- a load over files that tell their content

@@ -3,9 +3,8 @@ ghost use Rattle.fx_top.specs.Bytes.{IsFreeOf};
 ghost use Rattle.fx_top.specs.Command.{IsCommand, IsLoad, IsRun, is_option};
 ghost use Rattle.fx_top.specs.declared.command.Command.{Command};
 
-use std::alloc::Global;
-
 use fx_base::{Memory, Text};
+use std::alloc::Global;
 
 /// What a command line asks for: to run a script over one bucket, which one file fills.
 #[derive(Debug, Drop)]

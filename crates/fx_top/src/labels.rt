@@ -1,9 +1,8 @@
 ghost use Rattle.std.specs.Prelude.{◌≡◌, IfOk};
 ghost use Rattle.fx_top.specs.Labels.{AreLabels};
 
-use std::alloc::Global;
-
 use fx_base::{Memory, Text};
+use std::alloc::Global;
 
 /// The engine's own labels, made once for all tables of a run.
 #[derive(Debug, Drop)]

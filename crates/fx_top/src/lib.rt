@@ -6,6 +6,7 @@ mod cause;
 mod command;
 mod labels;
 mod load;
+mod main_call;
 mod message;
 mod outcome;
 mod run;
@@ -14,5 +15,6 @@ mod source;
 
 pub use cause::LineCause;
 pub use command::Command;
+pub use main_call::flux_main;
 pub use outcome::Outcome;
 pub use script::Query;

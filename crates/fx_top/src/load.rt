@@ -5,14 +5,12 @@ ghost use Rattle.std.specs.Option.{option_map};
 ghost use Rattle.fx_top.specs.Bytes.{lines_of, lines_left, bytes_left};
 ghost use Rattle.fx_top.specs.Load.{IsReady, PointLoads, LineLoads, FileLoads, stop_at};
 
-use std::alloc::Global;
-
+use crate::bytes::cut;
+use crate::cause::LineCause;
 use fx_base::Text;
 use fx_line::{LineFault, LineMode, Point, read_line};
 use fx_series::{PutFault, Store};
-
-use crate::bytes::cut;
-use crate::cause::LineCause;
+use std::alloc::Global;
 
 /// How many points a run may load in all.
 pub const MOST_POINTS: u64 = 4_194_304;
@@ -84,12 +82,7 @@ fn first_line(text: &[u8]) -> (&[u8], Option<&[u8]>)
 }
 
 /// Stores the points of one line in a bucket.
-fn load_line(
-    alloc: Global,
-    line: &[u8],
-    bucket: &Text,
-    store: &mut Store,
-) -> Result<(), LineStop>
+fn load_line(alloc: Global, line: &[u8], bucket: &Text, store: &mut Store) -> Result<(), LineStop>
     requires bytes { length line.now ≤ 67108864 }
     requires ready { IsReady store.old bucket.now }
     ensures { (buckets : List (List ℕ)) (stored : List StoredPoint) → StandsFor store.old buckets stored → LineLoads buckets bucket.now line.now stored store.new result }

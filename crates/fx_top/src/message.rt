@@ -2,13 +2,11 @@ ghost use Rattle.std.specs.Prelude.{◌≡◌, ◌≢◌, ℕ, List, IfOk, ◌�
 ghost use Rattle.fx_base.specs.Outside.{appended, Rose};
 ghost use Rattle.fx_top.specs.Message.{line_of, cause_text, error_text, fault_text, IsAtStart};
 
-use std::alloc::Global;
-
-use fx_base::{FaultKind, Memory, Sink, SinkFault};
-use fx_line::LineError;
-
 use crate::cause::LineCause;
 use crate::outcome::Outcome;
+use fx_base::{FaultKind, Memory, Sink, SinkFault};
+use fx_line::LineError;
+use std::alloc::Global;
 
 /// Writes the outcome's line. A fault of the sink changes no outcome; want of memory does.
 pub fn tell<E: Sink>(alloc: Global, outcome: Outcome, err: &mut E) -> Outcome

@@ -1,9 +1,8 @@
 ghost use Rattle.std.specs.Prelude.{◌≡◌};
 ghost use Rattle.fx_top.specs.Message.{status_of};
 
-use fx_base::{Fault, Text};
-
 use crate::cause::LineCause;
+use fx_base::{Fault, Text};
 
 /// How a call of the program ends.
 #[derive(Debug, PartialEq, Eq, Drop)]
@@ -13,9 +12,14 @@ pub enum Outcome {
     /// The words are no form of a command.
     Usage,
     /// The system refused this file.
-    FileFault { name: Text },
+    FileFault {
+        name: Text,
+    },
     /// This file holds more bytes than its limit; `taken` is the limit plus 1.
-    TooLong { name: Text, taken: u64 },
+    TooLong {
+        name: Text,
+        taken: u64,
+    },
     /// The script has a form that isn't built yet.
     NotBuilt,
     /// This line of a data file, counted from 1, is refused.
@@ -25,13 +29,18 @@ pub enum Outcome {
         cause: LineCause,
     },
     /// The script ended with a fault, after the yields before it.
-    Fault { fault: Fault },
+    Fault {
+        fault: Fault,
+    },
     /// The system refused a write of the output.
     SinkFault,
     /// Want of memory.
     Memory,
     /// This line, counted from 1, holds a point when as many are loaded as may be.
-    TooMany { file: Text, line: u64 },
+    TooMany {
+        file: Text,
+        line: u64,
+    },
 }
 
 impl Outcome {

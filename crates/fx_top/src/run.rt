@@ -4,20 +4,19 @@ ghost use Rattle.fx_line.specs.Stored.{StoredPoint};
 ghost use Rattle.fx_series.specs.Store.{StandsFor};
 ghost use Rattle.fx_top.specs.Command.{IsCommand};
 ghost use Rattle.fx_top.specs.Answer.{Answers, Asks, Causes, EndsAs, Writes, NamesFile};
+ghost use Rattle.fx_top.specs.Message.{IsAtStart};
 ghost use Rattle.fx_top.specs.Stage.{FileAnswers, FileCauses, RunCauses, DataAnswers, StopAnswers, IsKept};
-
-use std::alloc::Global;
-use std::sync::ledger::Ledger;
-
-use fx_base::{Fault, FaultKind, FileFault, Files, Memory, Place, Sink, SinkFault, Steps, Text};
-use fx_csv::write_yield;
-use fx_series::Store;
 
 use crate::command::{Command, read_words};
 use crate::load::{LoadStop, load_file};
 use crate::outcome::Outcome;
 use crate::script::{Query, read_script};
 use crate::source::query_tables;
+use fx_base::{Fault, FaultKind, FileFault, Files, Memory, Place, Sink, SinkFault, Steps, Text};
+use fx_csv::write_yield;
+use fx_series::Store;
+use std::alloc::Global;
+use std::sync::ledger::Ledger;
 
 /// How many bytes a script may have.
 pub const MOST_SCRIPT_BYTES: u64 = 65_536;
@@ -37,6 +36,7 @@ pub fn run<F: Files, O: Sink, L: Ledger>(
     ensures causes { Causes (F.faults files.old) (F.faults files.new) (O.faults out.old) (O.faults out.new) result }
     ensures writes { Writes (O.written out.old) (O.written out.new) result }
     ensures names { NamesFile words.now result }
+    ensures start { IsAtStart result }
 {
     match read_words(alloc, words) {
         Err(_) => Outcome::Memory,
@@ -57,6 +57,7 @@ fn run_command<F: Files, O: Sink, L: Ledger>(
     ensures causes { Causes (F.faults files.old) (F.faults files.new) (O.faults out.old) (O.faults out.new) result }
     ensures writes { Writes (O.written out.old) (O.written out.new) result }
     ensures names { (words : List (List ℕ)) → IsCommand words command.now → NamesFile words result }
+    ensures start { IsAtStart result }
 {
     let script = match load(alloc, &command.script, MOST_SCRIPT_BYTES, files) {
         Ok(script) => script,
@@ -82,6 +83,7 @@ fn run_query<F: Files, O: Sink, L: Ledger>(
     ensures causes { Causes (F.faults files.old) (F.faults files.new) (O.faults out.old) (O.faults out.new) result }
     ensures writes { Writes (O.written out.old) (O.written out.new) result }
     ensures names { (words : List (List ℕ)) → IsCommand words command.now → NamesFile words result }
+    ensures start { IsAtStart result }
 {
     match load(alloc, &command.file, MOST_FILE_BYTES, files) {
         Ok(file) => run_over(alloc, command, query, file.as_slice(), out, steps),
@@ -90,12 +92,7 @@ fn run_query<F: Files, O: Sink, L: Ledger>(
 }
 
 /// The bytes of a file, or the answer that it can't be had.
-fn load<F: Files>(
-    alloc: Global,
-    name: &Text,
-    limit: u64,
-    files: &mut F,
-) -> Result<Vec<u8>, Outcome>
+fn load<F: Files>(alloc: Global, name: &Text, limit: u64, files: &mut F) -> Result<Vec<u8>, Outcome>
     requires limit { limit < 2 ^ 64 - 1 }
     ensures same { F.content files.new ≡ F.content files.old }
     ensures told { (told : Told) → F.content files.old ≡ Some told → FileAnswers told name.now limit result }

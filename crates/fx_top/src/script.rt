@@ -3,12 +3,10 @@ ghost use Rattle.std.specs.List.{list_all};
 ghost use Rattle.fx_top.specs.Script.{IsScript, IsFrom, IsRange, IsMoment, IsEnd, is_name_byte};
 ghost use Rattle.fx_top.specs.declared.script.Query.{Query};
 
-use std::alloc::Global;
-
+use crate::bytes::{after, cut};
 use fx_base::{Memory, Text, TextFault};
 use fx_time::read_time;
-
-use crate::bytes::{after, cut};
+use std::alloc::Global;
 
 /// What a script asks for: the points of a bucket from `start` on and before `stop`, in
 /// nanoseconds since 1970-01-01T00:00:00Z.
@@ -47,7 +45,11 @@ fn read_from(text: &[u8]) -> Option<(&[u8], &[u8])>
 {
     let quoted = after(text, b"from(bucket: \"")?;
     let (name, rest) = cut(quoted, b'"')?;
-    if is_name(name) { Some((name, rest)) } else { None }
+    if is_name(name) {
+        Some((name, rest))
+    } else {
+        None
+    }
 }
 
 fn is_name(text: &[u8]) -> bool

@@ -8,17 +8,15 @@ ghost use Rattle.fx_series.specs.Read.{pairs};
 ghost use Rattle.fx_top.specs.Labels.{AreLabels};
 ghost use Rattle.fx_top.specs.Run.{columns_of, named, with_tags, is_within, table_of, tables_of, has_rows};
 
-use std::alloc::Global;
-use std::sync::ledger::Ledger;
-
+use crate::labels::{Labels, own_labels};
+use crate::script::Query;
 use fx_base::{List, Memory, Steps, Text};
 use fx_data::{Table, Tables, gather, shared_key};
 use fx_line::{SeriesKey, Tag};
 use fx_series::{Store, TimeValue};
 use fx_value::{Head, Kind, Row, Scalar, Shape, Source};
-
-use crate::labels::{Labels, own_labels};
-use crate::script::Query;
+use std::alloc::Global;
+use std::sync::ledger::Ledger;
 
 /// The tables that a query yields over a store.
 pub fn query_tables<L: Ledger>(
@@ -130,7 +128,11 @@ fn named_head(
     tags_head(alloc, key.tags.as_slice())?
         .with(alloc, &labels.field, Source::Fixed(field))?
         .with(alloc, &labels.measurement, Source::Fixed(measurement))?
-        .with(alloc, &labels.start, Source::Fixed(Scalar::Time(query.start)))?
+        .with(
+            alloc,
+            &labels.start,
+            Source::Fixed(Scalar::Time(query.start)),
+        )?
         .with(alloc, &labels.stop, Source::Fixed(Scalar::Time(query.stop)))
 }
 

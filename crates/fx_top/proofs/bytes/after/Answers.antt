@@ -1,4 +1,3 @@
-use Rattle.std.proofs.Common.{◌≡◌, sym}
 use Rattle.fx_top.proofs.BytesLemmas.{behind}
 use Rattle.fx_top.proofs.bytes.after.Goals as goal
 

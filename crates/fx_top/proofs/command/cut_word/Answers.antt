@@ -1,6 +1,5 @@
-use Rattle.std.proofs.Common.{◌≡◌, ◌∷◌, ◌++◌, List, ℕ, Option, None, Some, arith, lit<}
+use Rattle.std.proofs.Common.{lit<}
 use Rattle.std.proofs.lemmas.Str.Pattern.{split_once_first}
-use Rattle.fx_top.proofs.BytesLemmas.{first_parts, none_first}
 use Rattle.fx_top.proofs.CommandLemmas.{cut_at}
 use Rattle.fx_top.proofs.command.cut_word.Goals as goal
 

@@ -1,4 +1,4 @@
-use Rattle.std.proofs.Common.{◌≡◌, ◌∙◌, ap}
+use Rattle.std.proofs.Common.{◌∙◌, ap}
 use Rattle.fx_top.specs.Bytes.{lines_of}
 use Rattle.fx_top.proofs.BytesLemmas.{lines_of-cut, lines_of-end}
 use Rattle.fx_top.proofs.load.first_line.Goals as goal

@@ -1,7 +1,5 @@
-use Rattle.std.proofs.Common.{◌≡◌, ℕ, List, ◌∷◌, ◌+◌, ◌≤◌, ◌∙◌, length, ap, sym, subst, arith, None, Err}
+use Rattle.std.proofs.Common.{◌≡◌, ◌+◌, ◌∙◌, length, ap, sym, subst, arith, Err}
 use Rattle.std.specs.Option.{option_map}
-use Rattle.fx_line.specs.Stored.{StoredPoint}
-use Rattle.fx_series.specs.Store.{StandsFor}
 use Rattle.fx_top.specs.Bytes.{lines_left, bytes_left}
 use Rattle.fx_top.specs.Load.{FileLoads}
 use Rattle.fx_top.proofs.LoadLemmas.{read_more, ready_after, stops, stop_loads, all_read, HasRead}
@@ -13,7 +11,7 @@ returns-in-Err c = λ buckets stored stands.
     let lines = ap (λ o. lines_left (option_map (λ t. t.now) o)) c.in-Some.is ∙ c.first_line.ensures.lines in
     let at = stops buckets c.args.bucket.now c.args.file.now c.first_line.result.0.now stored c.loop-rest.number (option_map (λ t. t.now) c.loop-rest.rest) (lines_left (option_map (λ t. t.now) c.first_line.result.1)) c.loop-rest.store had lines in
     subst (λ stop. FileLoads buckets c.args.bucket.now c.args.file.now stored c.load_line.new.store (Err stop)) (sym c.at_line.ensures)
-        (stop_loads buckets c.args.bucket.now c.args.file.now c.first_line.result.0.now stored had.stored (c.loop-rest.number + 1) c.load_line.new.store c.load_line.new.store c.in-Err.stop at (c.in-Err.ensures buckets had.stored had.stands))
+    (stop_loads buckets c.args.bucket.now c.args.file.now c.first_line.result.0.now stored had.stored (c.loop-rest.number + 1) c.load_line.new.store c.load_line.new.store c.in-Err.stop at (c.in-Err.ensures buckets had.stored had.stands))
 
 pub loop-rest-preserved : goal.loop-rest-preserved
 loop-rest-preserved c =
@@ -25,9 +23,9 @@ loop-rest-preserved c =
       small = omega (arith, c.first_line.ensures.shorter, size, c.loop-rest.invariant.small);
       ready = ready_after ready.buckets c.args.bucket.now c.first_line.result.0.now ready.stored taken.0 c.loop-rest.store c.load_line.new.store ready.added ready.stands taken.1 taken.2;
       read = λ buckets stored stands.
-        let had = c.loop-rest.invariant.read buckets stored stands in
-        let more = c.in-Ok.ensures buckets had.stored had.stands in
-        read_more buckets c.args.bucket.now c.args.file.now c.first_line.result.0.now stored more.0 c.loop-rest.number (option_map (λ t. t.now) c.loop-rest.rest) (option_map (λ t. t.now) c.first_line.result.1) c.loop-rest.store c.load_line.new.store had lines more.1 more.2;
+          let had = c.loop-rest.invariant.read buckets stored stands in
+          let more = c.in-Ok.ensures buckets had.stored had.stands in
+          read_more buckets c.args.bucket.now c.args.file.now c.first_line.result.0.now stored more.0 c.loop-rest.number (option_map (λ t. t.now) c.loop-rest.rest) (option_map (λ t. t.now) c.first_line.result.1) c.loop-rest.store c.load_line.new.store had lines more.1 more.2;
     }
 
 pub returns : goal.returns

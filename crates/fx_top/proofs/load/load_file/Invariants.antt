@@ -1,9 +1,8 @@
-use Rattle.std.proofs.Common.{◌≡◌, ℕ, ◌+◌, ◌≤◌, List, ◌++◌, length, take, true}
+use Rattle.std.proofs.Common.{ℕ, ◌+◌, ◌≤◌, List, length}
 use Rattle.std.specs.Option.{option_map}
 use Rattle.fx_line.specs.Stored.{StoredPoint}
-use Rattle.fx_series.specs.Store.{StandsFor, is_added}
-use Rattle.fx_top.specs.declared.load.TheConstants.{MOST_POINTS}
-use Rattle.fx_top.specs.Bytes.{lines_of, lines_left, bytes_left}
+use Rattle.fx_series.specs.Store.{StandsFor}
+use Rattle.fx_top.specs.Bytes.{bytes_left}
 use Rattle.fx_top.specs.Load.{IsReady}
 use Rattle.fx_top.proofs.LoadLemmas.{HasRead}
 use Rattle.fx_top.proofs.load.load_file.Given as goal
@@ -12,7 +11,7 @@ abbrev pub invariant-loop-rest : goal.invariant-loop-rest
 invariant-loop-rest l = record {
   small : l.number + bytes_left (option_map (λ t. t.now) l.rest) ≤ length l.file + 1;
   ready : IsReady l.store l.bucket;
-  read : (buckets : List (List ℕ)) (stored : List StoredPoint) → StandsFor l.initial.store buckets stored → HasRead buckets l.bucket l.file stored l.number (option_map (λ t. t.now) l.rest) l.store
+  read : (buckets : List (List ℕ)) (stored : List StoredPoint) → StandsFor l.initial.store buckets stored → HasRead buckets l.bucket l.file stored l.number (option_map (λ t. t.now) l.rest) l.store;
 }
 
 abbrev pub decreases-loop-rest : goal.decreases-loop-rest

@@ -1,4 +1,4 @@
-use Rattle.std.proofs.Common.{sym, ◌∙◌, subst, ◌≡◌, ◌∷◌, []}
+use Rattle.std.proofs.Common.{sym, ◌∙◌, subst}
 use Rattle.fx_line.specs.Line.{Gives}
 use Rattle.fx_top.proofs.LoadLemmas.{line_of_point, single}
 use Rattle.fx_top.proofs.load.load_line.Goals as goal

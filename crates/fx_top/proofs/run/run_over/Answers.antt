@@ -1,5 +1,4 @@
-use Rattle.std.proofs.Common.{◌≡◌, [], ◌∷◌, ap, sym, true}
-use Rattle.fx_top.specs.Load.{IsReady}
+use Rattle.std.proofs.Common.{[], ◌∷◌}
 use Rattle.fx_top.proofs.AnswerLemmas.{data_ends, stop_ends, new_is_ready}
 use Rattle.fx_top.proofs.run.run_over.Goals as goal
 

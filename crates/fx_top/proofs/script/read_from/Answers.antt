@@ -1,4 +1,4 @@
-use Rattle.std.proofs.Common.{List, ℕ, ◌++◌, ◌∷◌, sym, ◌∙◌, true}
+use Rattle.std.proofs.Common.{List, ℕ, ◌++◌, ◌∷◌}
 use Rattle.fx_top.specs.Script.{IsFrom}
 use Rattle.fx_top.proofs.ScriptLemmas.{if_none, other_name}
 use Rattle.fx_top.proofs.script.read_from.Goals as goal

@@ -1,5 +1,5 @@
-use Rattle.std.proofs.Common.{rules, sym, ◌∙◌, ap, subst, arith, ◌≡◌, pos, FitsSigned}
-use Rattle.std.specs.Prelude.{IfOk, ◌≤ℤ◌, ◌-ℤ◌}
+use Rattle.std.proofs.Common.{rules, sym, ◌∙◌, ap, subst, arith, ◌≡◌, FitsSigned}
+use Rattle.std.specs.Prelude.{IfOk, ◌≤ℤ◌}
 use Rattle.std.specs.Int.{w64}
 use Rattle.std.proofs.lemmas.Int.{ints, to_z-of_z}
 use Rattle.fx_series.specs.Read.{pairs, between}

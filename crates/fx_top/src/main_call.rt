@@ -1,0 +1,37 @@
+ghost use Rattle.std.specs.Prelude.{◌≡◌, ◌≢◌, ℕ, List, Some};
+ghost use Rattle.fx_base.specs.Outside.{Told, Rose, appended};
+ghost use Rattle.fx_top.specs.Answer.{Answers, Causes, Writes, NamesFile};
+ghost use Rattle.fx_top.specs.Message.{line_of};
+
+use crate::message::tell;
+use crate::outcome::Outcome;
+use crate::run::run;
+use fx_base::{Files, Sink, Steps, Text};
+use std::alloc::Global;
+use std::sync::ledger::Ledger;
+
+/// All that the program does: takes the words of a command line without the program's name, the
+/// moment in nanoseconds since 1970-01-01T00:00:00Z, the files and the two streams, and says how it
+/// ended. No command reads the moment yet.
+///
+/// `answers` is the headline: over files that tell their content each answer is the one that
+/// evaluating the query directly over all loaded points gives, in the order of the refusals.
+/// `causes` says that a device's fault is answered only where its count of faults rose.
+pub fn flux_main<F: Files, O: Sink, E: Sink, L: Ledger>(
+    alloc: Global,
+    words: &[Text],
+    _moment: i64,
+    files: &mut F,
+    out: &mut O,
+    err: &mut E,
+    steps: &mut Steps<L>,
+) -> Outcome
+    ensures answers { (told : Told) → F.content files.old ≡ Some told → Answers told words.now (O.written out.old) (O.written out.new) result }
+    ensures causes { Causes (F.faults files.old) (F.faults files.new) (O.faults out.old) (O.faults out.new) result }
+    ensures writes { Writes (O.written out.old) (O.written out.new) result }
+    ensures names { NamesFile words.now result }
+    ensures said { (script : List ℕ) → result ≢ Outcome.Memory → (Rose (E.faults err.old) (E.faults err.new) → ⊥) → E.written err.new ≡ appended (E.written err.old) (line_of script result) }
+{
+    let outcome = run(alloc, words, files, out, steps);
+    tell(alloc, outcome, err)
+}
