@@ -5,12 +5,11 @@ ghost use Rattle.std.specs.Prelude.{◌≡◌, ◌<◌};
 
 mod host_files;
 mod host_sink;
-mod top;
 
 use crate::host_files::HostFiles;
 use crate::host_sink::HostSink;
-use crate::top::{Outcome, flux_main};
 use fx_base::{Steps, Text};
+use fx_top::{Outcome, flux_main};
 use std::env;
 use std::marker::Brand;
 use std::process::ExitCode;
