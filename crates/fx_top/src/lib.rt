@@ -12,6 +12,8 @@ mod outcome;
 mod run;
 mod script;
 mod source;
+#[cfg(test)]
+mod tests;
 
 pub use cause::LineCause;
 pub use command::Command;
