@@ -1,0 +1,1 @@
+from(bucket: "b") |> range(start: 1677-09-21T00:12:44Z, stop: 2262-04-11T23:47:16Z)
