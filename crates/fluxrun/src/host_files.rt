@@ -11,6 +11,7 @@ pub struct HostFiles<'a, R: rt::Files> {
 }
 
 impl<R: rt::Files> HostFiles<'_, R> {
+    /// No load was refused yet. `new` promises nothing: `main`, its one caller, has no clause to keep.
     pub fn new(runtime: &R) -> HostFiles<'_, R> {
         HostFiles { runtime, faults: 0 }
     }

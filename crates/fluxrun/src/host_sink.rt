@@ -9,6 +9,7 @@ pub struct HostSink<W: Write + Drop> {
 }
 
 impl<W: Write + Drop> HostSink<W> {
+    /// No write was refused yet. `new` promises nothing: `main`, its one caller, has no clause to keep.
     pub fn new(stream: W) -> HostSink<W> {
         HostSink { stream, faults: 0 }
     }
