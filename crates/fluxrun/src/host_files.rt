@@ -1,3 +1,5 @@
+ghost use Rattle.std.specs.Prelude.{◌≡◌};
+
 use fx_base::{FileFault, Files, Text};
 use std::alloc::Global;
 use std::io::{ErrorKind, Read};
@@ -11,8 +13,10 @@ pub struct HostFiles<'a, R: rt::Files> {
 }
 
 impl<R: rt::Files> HostFiles<'_, R> {
-    /// No load was refused yet. `new` promises nothing: `main`, its one caller, has no clause to keep.
-    pub fn new(runtime: &R) -> HostFiles<'_, R> {
+    /// Over the files of this runtime. No load was refused yet.
+    pub fn new(runtime: &R) -> HostFiles<'_, R>
+        ensures { result.faults ≡ 0 }
+    {
         HostFiles { runtime, faults: 0 }
     }
 }

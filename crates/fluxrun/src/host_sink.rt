@@ -1,3 +1,5 @@
+ghost use Rattle.std.specs.Prelude.{◌≡◌};
+
 use fx_base::{Sink, SinkFault};
 use std::io::Write;
 
@@ -9,8 +11,10 @@ pub struct HostSink<W: Write + Drop> {
 }
 
 impl<W: Write + Drop> HostSink<W> {
-    /// No write was refused yet. `new` promises nothing: `main`, its one caller, has no clause to keep.
-    pub fn new(stream: W) -> HostSink<W> {
+    /// Over this stream. No write was refused yet.
+    pub fn new(stream: W) -> HostSink<W>
+        ensures { result.faults ≡ 0 }
+    {
         HostSink { stream, faults: 0 }
     }
 }
