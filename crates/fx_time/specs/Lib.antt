@@ -1,3 +1,7 @@
 pub mod Calendar
 pub mod Front
+pub mod March
+pub mod Months
+pub mod Spans
 pub mod Time
+pub mod Windows

@@ -1,0 +1,16 @@
+use Rattle.std.proofs.Common.{FitsSigned, w64, arith}
+use Rattle.std.specs.Int.{w128}
+use Rattle.std.proofs.lemmas.Int.{to_z-of_z}
+use Rattle.jiff_core.proofs.SignedLemmas.{signed_arith}
+use Rattle.fx_time.proofs.WindowLemmas.{starts_after}
+use Rattle.fx_time.proofs.window.month_at.Goals as goal
+
+pub returns-clause-last : goal.returns-clause-last
+returns-clause-last c k =
+    let t : FitsSigned w128 c.args.t = c.ranges.t in
+    let value = simp to_z-of_z at c.quotient.ensures.value in
+    let wide : FitsSigned w128 c.quotient.result = omega (arith, signed_arith, c.quotient.ensures.bound) in
+    let day : FitsSigned w64 c.quotient.result = omega (arith, signed_arith, value, c.requires) in
+    let month : FitsSigned w64 c.month_of_day.result = omega (arith, signed_arith, c.month_of_day.ensures.bound) in
+    let holds = rw value at (simp to_z-of_z at c.month_of_day.ensures.month) in
+    simp to_z-of_z (starts_after c.args.t c.month_of_day.result k holds)
