@@ -158,3 +158,14 @@ module _ (a b v : Scalar) (h : FinMap text_cmp Source) (m : FinMap text_cmp Scal
 
   pub second_replaced : IsOnly h k Second → row_of h a v ≡ fin.insert m k v
   second_replaced o = row_replaced a b a v Second (keeps_first a b v) h m k view o
+
+chosen_none : (t : Bool) (o : Option Scalar) → (t ≡ true → None ≡ o) → o ≡ cond t None o
+chosen_none true o h = sym (h refl)
+chosen_none false o h = refl
+
+-- to take out a label that isn't there changes nothing
+pub nothing_removed : (m : FinMap text_cmp Scalar) (k : List ℕ) → None ≡ fin.get m k → m ≡ fin.remove m k
+nothing_removed m k lacks =
+    fin.same_map nat_list_cmp_total text_same _ _ (λ q.
+    chosen_none (eq_by_cmp text_cmp q k) (fin.get m q) (λ t. lacks ∙ ap (fin.get m) (sym (text_same q k ((Equal-is _).0 t))))
+    ∙ sym (fin.get-remove nat_list_cmp_total m k q))

@@ -1,6 +1,9 @@
+pub mod Calls
 pub mod Change
+pub mod Ends
 pub mod Own
 pub mod Place
+pub mod Probe
 pub mod Row
 pub mod Scalar
 pub mod Slots

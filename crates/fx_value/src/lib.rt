@@ -1,9 +1,15 @@
-//! Kinds, scalars with their order, and rows: finite maps from labels to scalars.
+//! Kinds, scalars with their order, rows, which are finite maps from labels to scalars, and functions
+//! of rows.
 #![tactic(auto)]
 
+mod answer;
 mod change;
 mod head;
+mod key_test;
+#[cfg(test)]
+mod probe;
 mod row;
+mod row_fun;
 mod scalar;
 mod shape;
 mod slot;
@@ -11,9 +17,12 @@ mod source;
 #[cfg(test)]
 mod tests;
 
+pub use answer::Answer;
 pub use change::{Change, change_rows};
 pub use head::Head;
+pub use key_test::{KeyPredicate, KeyTest, Test};
 pub use row::Row;
+pub use row_fun::RowFun;
 pub use scalar::{Kind, Scalar, scalar_order, scalar_order_is_total};
 pub use shape::Shape;
 pub use source::Source;

@@ -98,8 +98,32 @@ impl Row {
         Ok(())
     }
 
-    /// Takes the label out of the row; a refusal leaves the row as it was.
-    pub fn remove(&mut self, alloc: Global, label: &Text) -> Result<(), Memory>
+    /// Takes the label out of the row and gives its value, or None where the row doesn't have it. A
+    /// refusal leaves the row as it was; where the label isn't there, no memory is taken.
+    pub fn take_out(&mut self, alloc: Global, label: &Text) -> Result<Option<Scalar>, Memory>
+        ensures value { IfOk result (λ value. value ≡ map.get self.old label.now) }
+        ensures left { OnOk result (self.new ≡ map.remove self.old label.now) }
+        ensures err { OnErr result (self.new ≡ self.old) }
+    {
+        match self.copy_at(label)? {
+            None => Ok(None),
+            Some(value) => {
+                self.leave_out(alloc, label)?;
+                Ok(Some(value))
+            }
+        }
+    }
+
+    fn copy_at(&self, label: &Text) -> Result<Option<Scalar>, Memory>
+        ensures { IfOk result (λ value. value ≡ map.get self.now label.now) }
+    {
+        match self.get(label) {
+            None => Ok(None),
+            Some(value) => Ok(Some(value.copy()?)),
+        }
+    }
+
+    fn leave_out(&mut self, alloc: Global, label: &Text) -> Result<(), Memory>
         ensures ok { OnOk result (self.new ≡ map.remove self.old label.now) }
         ensures err { OnErr result (self.new ≡ self.old) }
     {

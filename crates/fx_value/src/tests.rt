@@ -1,5 +1,6 @@
-use crate::{Change, Head, Row, Scalar, Shape, Source, change_rows, scalar_order};
-use fx_base::{List, Memory, Text};
+use crate::probe::Probe;
+use crate::{Answer, Change, Head, Row, RowFun, Scalar, Shape, Source, change_rows, scalar_order};
+use fx_base::{Fault, FaultKind, Halt, List, Memory, MemoryPatterns, Meter, Patterns, Place, Text};
 use std::alloc::Global;
 use std::test::Fail;
 
@@ -58,6 +59,28 @@ fn rows_of_one_shape_are_set_apart(rt: HostRuntime) -> Result<(), Fail> {
         give(&mut row, alloc, label, 99)?;
         assert_eq!(rt; shown(&row, alloc)?.as_str(), want, "set at {label}");
         assert!(rt; row.same_labels(&other));
+    }
+    assert_eq!(rt; shown(&other, alloc)?.as_str(), "field=7;time=1;value=10;");
+    Ok(())
+}
+
+#[test]
+fn a_label_is_taken_out_of_one_row(rt: HostRuntime) -> Result<(), Fail> {
+    let alloc = rt.alloc();
+    let other = point(alloc, 1, 10)?;
+    for (label, value, want) in [
+        ("value", Some(Scalar::Int(10)), "field=7;time=1;"),
+        ("time", Some(Scalar::Time(1)), "field=7;value=10;"),
+        ("field", Some(Scalar::Int(7)), "time=1;value=10;"),
+        ("tim", None, "field=7;time=1;value=10;"),
+    ] {
+        let mut row = other.copy()?;
+        assert_eq!(rt;
+            row.take_out(alloc, &Text::of(alloc, label)?)?,
+            value,
+            "{label}"
+        );
+        assert_eq!(rt; shown(&row, alloc)?.as_str(), want, "without {label}");
     }
     assert_eq!(rt; shown(&other, alloc)?.as_str(), "field=7;time=1;value=10;");
     Ok(())
@@ -126,5 +149,65 @@ fn scalars_stand_in_order(rt: HostRuntime) -> Result<(), Fail> {
             assert_eq!(rt; scalar_order(a, b), i.cmp(&j), "at {i} and {j}");
         }
     }
+    Ok(())
+}
+
+/// A row whose `text` is this, beside another label.
+fn worded(alloc: Global, text: &str) -> Result<Row, Memory> {
+    let mut row = Row::empty(alloc)?;
+    give(&mut row, alloc, "value", 1)?;
+    row.set(
+        alloc,
+        Text::of(alloc, "text")?,
+        Scalar::Text(Text::of(alloc, text)?),
+    )?;
+    Ok(row)
+}
+
+/// What a call answers, and what is spent after it.
+fn told(alloc: Global, answer: Result<Answer, Halt>, spent: u64) -> Result<String, Memory> {
+    let told = match answer {
+        Ok(Answer::Cell(Scalar::Bool(b))) => format!(in alloc; "{b}, {spent}")?,
+        Ok(_) => format!(in alloc; "another answer, {spent}")?,
+        Err(Halt::Fault(fault)) => format!(in alloc; "fault at {}, {spent}", fault.place.at)?,
+        Err(Halt::Budget { ticks }) => format!(in alloc; "{ticks} ticks, {spent}")?,
+        Err(Halt::Memory) => format!(in alloc; "memory, {spent}")?,
+    };
+    Ok(told)
+}
+
+/// A call on this row of a probe of 3 ticks that looks for `na`, with a budget of 14.
+fn probed(alloc: Global, row: &Row, spent: u64) -> Result<String, Fail> {
+    let mut patterns = MemoryPatterns::none(alloc, List::empty(alloc));
+    let number = patterns.build(alloc, &Text::of(alloc, "na")?)?;
+    let probe = Probe {
+        label: Text::of(alloc, "text")?,
+        number,
+        ticks: 3,
+        fault: Fault {
+            kind: FaultKind::NullArgument,
+            place: Place { at: 7 },
+        },
+    };
+    let mut meter = Meter {
+        budget: 14,
+        spent: spent.min(14),
+    };
+    let answer = probe.call_one(alloc, row, &mut meter, &mut patterns);
+    Ok(told(alloc, answer, meter.spent)?)
+}
+
+#[test]
+fn a_row_function_spends_asks_and_ends(rt: HostRuntime) -> Result<(), Fail> {
+    let alloc = rt.alloc();
+    let yes = worded(alloc, "banana")?;
+    assert_eq!(rt; probed(alloc, &yes, 0)?.as_str(), "true, 3");
+    assert_eq!(rt; probed(alloc, &yes, 11)?.as_str(), "true, 14");
+    assert_eq!(rt; probed(alloc, &yes, 12)?.as_str(), "15 ticks, 12");
+    let no = worded(alloc, "pear")?;
+    assert_eq!(rt; probed(alloc, &no, 4)?.as_str(), "false, 7");
+    let none = point(alloc, 1, 10)?;
+    assert_eq!(rt; probed(alloc, &none, 4)?.as_str(), "fault at 7, 7");
+    assert_eq!(rt; probed(alloc, &none, 14)?.as_str(), "17 ticks, 14");
     Ok(())
 }

@@ -2,7 +2,7 @@ use Rattle.std.proofs.Common.{ap, ◌∙◌}
 use Rattle.std.specs.FinMap as map
 use Rattle.fx_value.specs.Row.{row_of}
 use Rattle.fx_value.proofs.Rows.{row_of-remove}
-use Rattle.fx_value.proofs.row.Row.remove.Goals as goal
+use Rattle.fx_value.proofs.row.Row.leave_out.Goals as goal
 
 pub returns-clause-ok : goal.returns-clause-ok
 returns-clause-ok c =
