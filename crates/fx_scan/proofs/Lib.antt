@@ -1,0 +1,17 @@
+pub mod Beginnings
+pub mod FoundLemmas
+pub mod KindLemmas
+pub mod LentRows
+pub mod ListSteps
+pub mod NumberLemmas
+pub mod OneList
+pub mod PairLemmas
+pub mod PieceLemmas
+pub mod Runs
+pub mod SpanLemmas
+pub mod SymbolLemmas
+pub mod TableLemmas
+pub mod TextLemmas
+pub mod TimeLemmas
+pub mod TokenLaws
+pub mod UnitLemmas

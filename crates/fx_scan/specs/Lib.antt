@@ -1,0 +1,4 @@
+pub mod Forms
+pub mod Readers
+pub mod Tables
+pub mod Tokens
