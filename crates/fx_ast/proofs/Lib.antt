@@ -1,0 +1,3 @@
+pub mod BareLaws
+pub mod SameLaws
+pub mod ShapeLaws

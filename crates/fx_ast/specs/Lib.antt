@@ -1,0 +1,4 @@
+pub mod Bare
+pub mod Levels
+pub mod Shape
+pub mod Tree
