@@ -1,0 +1,4 @@
+pub mod RowSums
+pub mod ShapeLaws
+pub mod SizeLaws
+pub mod SizeSteps
