@@ -1,0 +1,17 @@
+use Rattle.std.proofs.Common.{sym, ap, ◌∙◌}
+use Rattle.fx_types.specs.Instance.{ground_field, ground_tail}
+use Rattle.fx_types.specs.Shape.{field_term, rest_term}
+use Rattle.fx_types.proofs.ShapeLaws.{tail_default, tail_var}
+use Rattle.fx_unify.proofs.RowLaws.{if_ok, value_of}
+use Rattle.fx_unify.proofs.store.Store.root.Goals as goal
+
+pub returns-in_ok-copy-in-Default-clause-same : goal.returns-in_ok-copy-in-Default-clause-same
+returns-in_ok-copy-in-Default-clause-same c =
+    λ s solved l off. value_of s (field_term c.in_ok-copy-in-Default.field-0) ∙ ap (λ d. ground_field s (field_term d)) c.in_ok-copy-in-Default.ensures
+    ∙ ap (λ r. ground_tail s r l) (sym (ap rest_term c.in-Default.is ∙ tail_default c.in-Default.field))
+
+pub returns-in-Var-clause-same : goal.returns-in-Var-clause-same
+returns-in-Var-clause-same c =
+    if_ok c.root_of.result
+    (λ r h s solved l off. h s solved l off ∙ ap (λ x. ground_tail s x l) (sym (ap rest_term c.in-Var.is ∙ tail_var c.in-Var.row)))
+    c.root_of.ensures.same

@@ -1,0 +1,5 @@
+pub mod Part
+pub mod Rows
+pub mod Store
+pub mod Tag
+pub mod Work

@@ -1,0 +1,26 @@
+-- Rows of terms.
+use Rattle.std.specs.Prelude.{◌≡◌, true, List, [], ◌∷◌}
+use Rattle.fx_types.specs.Term.{Fields, no_fields, more_fields, is, Row}
+use Rattle.fx_types.specs.declared.term.LabelTy as labels
+use Rattle.fx_types.specs.Shape.{OfField, term}
+use Rattle.fx_types.specs.Ground.{GroundRow}
+use Rattle.fx_types.specs.Instance.{Solution, ground_fields, ground_tail}
+use Rattle.fx_unify.specs.declared.store.Column as columns
+use Rattle.fx_unify.specs.Store.{known}
+
+abbrev pub ground_row : Solution → Row → GroundRow
+ground_row s r = ground_fields s r.fields (ground_tail s r.rest)
+
+-- each listed label has a column
+abbrev pub AllKnown : Fields → List columns.Column → Type 0
+AllKnown no_fields cs = Unit {0}
+AllKnown (more_fields x f fs) cs = (known x cs ≡ true) × AllKnown fs cs
+
+-- the two rows have the same at each column
+abbrev pub SameAt : GroundRow → GroundRow → List columns.Column → Type 0
+SameAt r q [] = Unit {0}
+SameAt r q (c ∷ cs) = (r c.label ≡ q c.label) × SameAt r q cs
+
+-- the entry of a row that a required label is
+abbrev pub as_field : labels.LabelTy → OfField
+as_field e = record { label = e.label; field = is (term e.ty) }
