@@ -1,0 +1,5 @@
+pub mod Answer
+pub mod Binary
+pub mod Convert
+pub mod Operand
+pub mod Whole
