@@ -1,0 +1,10 @@
+use Rattle.std.proofs.Common.{◌≡◌, ◌-◌, length}
+use Rattle.fx_parse.specs.Ahead.{parts_before}
+use Rattle.fx_parse.specs.ReadExprs.{read_expr}
+use Rattle.fx_parse.specs.ReadPrimary.{read_holes}
+use Rattle.fx_parse.specs.Readings.{mapped}
+use Rattle.fx_parse.proofs.grammar.Grammar.holes.Given as goal
+
+abbrev pub invariant-loop-turn : goal.invariant-loop-turn
+invariant-loop-turn g l = mapped (parts_before l.fn.found.items) (read_holes (read_expr l.levels) (length l.fn.cursor) l.fn.cursor)
+    ≡ mapped (parts_before l.found.items) (read_holes (read_expr l.levels) (l._turn-end - l._turn) l.cursor)

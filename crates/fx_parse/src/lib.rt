@@ -1,0 +1,32 @@
+//! The parser: the tree of a script's tokens.
+#![tactic(auto)]
+
+mod array;
+mod chains;
+mod choice;
+mod cursor;
+mod escapes;
+mod function;
+mod grammar;
+mod group;
+mod holes;
+mod item;
+mod items;
+mod lists;
+mod literals;
+mod measured;
+mod nodes;
+mod number;
+mod operators;
+mod outlook;
+mod parts;
+mod phrase;
+mod postfix;
+mod prefixed;
+mod primary;
+mod saying;
+mod span;
+mod statement;
+mod stop;
+mod tests_of_items;
+mod values;
