@@ -1,5 +1,5 @@
 -- How the answers of the stages make those of the whole.
-use Rattle.std.proofs.Common.{◌≡◌, ℕ, List, [], ◌∷◌, length, take, Option, None, Some, Ok, Err, refl, sym, ◌∙◌, ap, subst, append-nil, inl, inr, Bool, true, false, arith, if◌then◌else◌}
+use Rattle.std.proofs.Common.{◌≡◌, ℕ, List, [], ◌∷◌, length, take, Option, None, Some, Err, refl, sym, ◌∙◌, ap, subst, append-nil, inl, inr, true, arith}
 use Rattle.std.specs.Cmp.Lexicographic.{nat_list_eq_equiv}
 use Rattle.fx_base.specs.Text.{same_text}
 use Rattle.std.proofs.Math.Seq.{take-length}
@@ -17,14 +17,7 @@ use Rattle.fx_top.specs.declared.run.TheConstants.{MOST_FILE_BYTES}
 use Rattle.fx_top.specs.Bytes.{lines_of}
 use Rattle.fx_top.specs.Command.{IsCommand}
 use Rattle.fx_top.specs.Load.{IsReady, Reads, FileLoads, StopsAt, IsCause}
-use Rattle.fx_top.specs.Run.{tables_of}
 use Rattle.fx_top.specs.Answer.{Answers, Asks, Causes, EndsAs, IsTold, IsLong, NamesFile, Reaches, Runs, Writes, yield_text}
-use Rattle.fx_base.specs.declared.fault.Fault.{Fault}
-use Rattle.fx_base.specs.declared.fault.FaultKind.TheVariants.{NoBucket}
-use Rattle.fx_data.specs.declared.table.Table.{Table}
-use Rattle.fx_line.specs.Stored.{grouped}
-use Rattle.fx_series.specs.Store.{is_added}
-use Rattle.fx_top.specs.Message.{IsAtStart}
 use Rattle.fx_top.specs.Stage.{DataAnswers, FileAnswers, FileCauses, RunCauses, StopAnswers}
 
 -- nothing more is written by no bytes
@@ -44,6 +37,7 @@ data_ends c q file stored old new outcome.Usage read h = absurd h
 data_ends c q file stored old new (outcome.FileFault name) read h = absurd h
 data_ends c q file stored old new (outcome.TooLong name taken) read h = absurd h
 data_ends c q file stored old new outcome.NotBuilt read h = absurd h
+data_ends c q file stored old new (outcome.Syntax place deep) read h = absurd h
 data_ends c q file stored old new (outcome.Line name number cause) read h = absurd h
 data_ends c q file stored old new (outcome.TooMany name number) read h = absurd h
 
@@ -71,8 +65,11 @@ stop_other (load_stop.Line number cause) file (outcome.TooLong name taken) n h =
 stop_other (load_stop.TooMany number) file (outcome.TooLong name taken) n h = h
 stop_other load_stop.Memory file (outcome.TooLong name taken) n h = h
 stop_other (load_stop.Line number cause) file outcome.NotBuilt n h = h
+stop_other (load_stop.Line number cause) file (outcome.Syntax place deep) n h = h
 stop_other (load_stop.TooMany number) file outcome.NotBuilt n h = h
+stop_other (load_stop.TooMany number) file (outcome.Syntax place deep) n h = h
 stop_other load_stop.Memory file outcome.NotBuilt n h = h
+stop_other load_stop.Memory file (outcome.Syntax place deep) n h = h
 stop_other (load_stop.Line number cause) file (outcome.Fault fault) n h = h
 stop_other (load_stop.TooMany number) file (outcome.Fault fault) n h = h
 stop_other load_stop.Memory file (outcome.Fault fault) n h = h
@@ -97,6 +94,7 @@ stop_ends c q file kept old stop outcome.Usage loads h = absurd (stop_other stop
 stop_ends c q file kept old stop (outcome.FileFault name) loads h = absurd (stop_other stop c.file (outcome.FileFault name) tt h)
 stop_ends c q file kept old stop (outcome.TooLong name taken) loads h = absurd (stop_other stop c.file (outcome.TooLong name taken) tt h)
 stop_ends c q file kept old stop outcome.NotBuilt loads h = absurd (stop_other stop c.file outcome.NotBuilt tt h)
+stop_ends c q file kept old stop (outcome.Syntax place deep) loads h = absurd (stop_other stop c.file (outcome.Syntax place deep) tt h)
 stop_ends c q file kept old stop (outcome.Fault fault) loads h = absurd (stop_other stop c.file (outcome.Fault fault) tt h)
 stop_ends c q file kept old stop outcome.SinkFault loads h = absurd (stop_other stop c.file outcome.SinkFault tt h)
 stop_ends c q file kept old (load_stop.TooMany number) (outcome.Line name n d) loads h = absurd h
@@ -119,6 +117,7 @@ ends_answers told words c q file old new outcome.Usage asks held h = absurd h
 ends_answers told words c q file old new (outcome.FileFault name) asks held h = absurd h
 ends_answers told words c q file old new (outcome.TooLong name taken) asks held h = absurd h
 ends_answers told words c q file old new outcome.NotBuilt asks held h = absurd h
+ends_answers told words c q file old new (outcome.Syntax place deep) asks held h = absurd h
 
 no_text : (old new : Option (List ℕ)) → new ≡ old → new ≡ appended old (take 0 (yield_text []))
 no_text old new h = h ∙ sym (appended-nil old)
@@ -135,6 +134,7 @@ ends_writes c q file old new outcome.Usage h = absurd h
 ends_writes c q file old new (outcome.FileFault name) h = absurd h
 ends_writes c q file old new (outcome.TooLong name taken) h = absurd h
 ends_writes c q file old new outcome.NotBuilt h = absurd h
+ends_writes c q file old new (outcome.Syntax place deep) h = absurd h
 
 pub ends_causes : (c : Command) (q : Query) (file : List ℕ) (old new : Option (List ℕ)) (files files' out out' : ℕ) (o : Outcome) → EndsAs c q file old new o → files' ≡ files → RunCauses out out' o → Causes files files' out out' o
 ends_causes c q file old new files files' out out' outcome.Done h same causes = (same, causes)
@@ -147,6 +147,7 @@ ends_causes c q file old new files files' out out' outcome.Usage h same causes =
 ends_causes c q file old new files files' out out' (outcome.FileFault name) h same causes = absurd h
 ends_causes c q file old new files files' out out' (outcome.TooLong name taken) h same causes = absurd h
 ends_causes c q file old new files files' out out' outcome.NotBuilt h same causes = absurd h
+ends_causes c q file old new files files' out out' (outcome.Syntax place deep) h same causes = absurd h
 
 pub ends_names : (words : List (List ℕ)) (c : Command) (q : Query) (file : List ℕ) (old new : Option (List ℕ)) (o : Outcome) → EndsAs c q file old new o → NamesFile words o
 ends_names words c q file old new outcome.Done h = tt
@@ -159,6 +160,7 @@ ends_names words c q file old new outcome.Usage h = absurd h
 ends_names words c q file old new (outcome.FileFault name) h = absurd h
 ends_names words c q file old new (outcome.TooLong name taken) h = absurd h
 ends_names words c q file old new outcome.NotBuilt h = absurd h
+ends_names words c q file old new (outcome.Syntax place deep) h = absurd h
 
 -- ---- a load that is refused as an answer of the whole
 
@@ -169,6 +171,7 @@ file_answers told words name limit old outcome.Memory at h = inl refl
 file_answers told words name limit old outcome.Done at h = absurd h
 file_answers told words name limit old outcome.Usage at h = absurd h
 file_answers told words name limit old outcome.NotBuilt at h = absurd h
+file_answers told words name limit old (outcome.Syntax place deep) at h = absurd h
 file_answers told words name limit old (outcome.Line n number cause) at h = absurd h
 file_answers told words name limit old (outcome.TooMany n number) at h = absurd h
 file_answers told words name limit old (outcome.Fault fault) at h = absurd h
@@ -181,6 +184,7 @@ file_causes name limit files files' out outcome.Memory h = tt
 file_causes name limit files files' out outcome.Done h = absurd h
 file_causes name limit files files' out outcome.Usage h = absurd h
 file_causes name limit files files' out outcome.NotBuilt h = absurd h
+file_causes name limit files files' out (outcome.Syntax place deep) h = absurd h
 file_causes name limit files files' out (outcome.Line n number cause) h = absurd h
 file_causes name limit files files' out (outcome.TooMany n number) h = absurd h
 file_causes name limit files files' out (outcome.Fault fault) h = absurd h
@@ -193,6 +197,7 @@ file_writes name limit files files' old outcome.Memory h = ([], 0, no_text old o
 file_writes name limit files files' old outcome.Done h = absurd h
 file_writes name limit files files' old outcome.Usage h = refl
 file_writes name limit files files' old outcome.NotBuilt h = refl
+file_writes name limit files files' old (outcome.Syntax place deep) h = refl
 file_writes name limit files files' old (outcome.Line n number cause) h = refl
 file_writes name limit files files' old (outcome.TooMany n number) h = refl
 file_writes name limit files files' old (outcome.Fault fault) h = refl
@@ -205,6 +210,7 @@ file_names words c name limit files files' outcome.Memory is named h = tt
 file_names words c name limit files files' outcome.Done is named h = tt
 file_names words c name limit files files' outcome.Usage is named h = tt
 file_names words c name limit files files' outcome.NotBuilt is named h = tt
+file_names words c name limit files files' (outcome.Syntax place deep) is named h = tt
 file_names words c name limit files files' (outcome.Line n number cause) is named h = tt
 file_names words c name limit files files' (outcome.TooMany n number) is named h = tt
 file_names words c name limit files files' (outcome.Fault fault) is named h = tt
@@ -221,6 +227,7 @@ forget_answers told words old new outcome.Usage h = inl h.1
 forget_answers told words old new (outcome.FileFault name) h = inl h.2
 forget_answers told words old new (outcome.TooLong name taken) h = inl h.4
 forget_answers told words old new outcome.NotBuilt h = inl h.1
+forget_answers told words old new (outcome.Syntax place deep) h = inl h.1
 forget_answers told words old new outcome.Memory h = h
 forget_answers told words old new (outcome.Line name number cause) h = inl h.ends.5
 forget_answers told words old new (outcome.TooMany name number) h = inl h.ends.5
@@ -237,6 +244,7 @@ forget_writes old new outcome.Usage h = ([], 0, no_text old new h)
 forget_writes old new (outcome.FileFault name) h = ([], 0, no_text old new h)
 forget_writes old new (outcome.TooLong name taken) h = ([], 0, no_text old new h)
 forget_writes old new outcome.NotBuilt h = ([], 0, no_text old new h)
+forget_writes old new (outcome.Syntax place deep) h = ([], 0, no_text old new h)
 forget_writes old new (outcome.Line name number cause) h = ([], 0, no_text old new h)
 forget_writes old new (outcome.TooMany name number) h = ([], 0, no_text old new h)
 forget_writes old new (outcome.Fault fault) h = ([], 0, no_text old new h)
@@ -255,36 +263,6 @@ new_is_ready bucket kept stands = record {
   added = rw (stands.buckets_are, same_as_itself bucket) refl;
   few = rw stands.puts_are (omega arith);
 }
-
--- ---- the place of a fault
-
-fault_start : (b : Bool) (tables : List Table) (fault : Fault) → (if b then Ok tables else Err (record { kind = NoBucket; place = record { at = 0 } })) ≡ Err fault → fault.place.at ≡ 0
-fault_start true tables fault h = cc
-fault_start false tables fault h = let is : record { kind = NoBucket; place = record { at = 0 } } ≡ fault = cc in ap (λ (f : Fault). f.place.at) (sym is)
-
-pub ends_start : (c : Command) (q : Query) (file : List ℕ) (old new : Option (List ℕ)) (o : Outcome) → EndsAs c q file old new o → IsAtStart o
-ends_start c q file old new (outcome.Fault fault) h = fault_start (is_added (c.bucket ∷ []) q.bucket) (tables_of q (grouped h.0)) fault h.2
-ends_start c q file old new outcome.Done h = tt
-ends_start c q file old new (outcome.Line name number cause) h = tt
-ends_start c q file old new (outcome.TooMany name number) h = tt
-ends_start c q file old new outcome.SinkFault h = tt
-ends_start c q file old new outcome.Memory h = tt
-ends_start c q file old new outcome.Usage h = tt
-ends_start c q file old new (outcome.FileFault name) h = tt
-ends_start c q file old new (outcome.TooLong name taken) h = tt
-ends_start c q file old new outcome.NotBuilt h = tt
-
-pub file_start : (name : List ℕ) (limit files files' : ℕ) (o : Outcome) → FileCauses name limit files files' (Err o) → IsAtStart o
-file_start name limit files files' (outcome.Fault fault) h = absurd h
-file_start name limit files files' outcome.Done h = tt
-file_start name limit files files' (outcome.Line n number cause) h = tt
-file_start name limit files files' (outcome.TooMany n number) h = tt
-file_start name limit files files' outcome.SinkFault h = tt
-file_start name limit files files' outcome.Memory h = tt
-file_start name limit files files' outcome.Usage h = tt
-file_start name limit files files' (outcome.FileFault n) h = tt
-file_start name limit files files' (outcome.TooLong n taken) h = tt
-file_start name limit files files' outcome.NotBuilt h = tt
 
 -- ---- the answer that was told
 

@@ -11,9 +11,11 @@ use Rattle.fx_top.specs.declared.outcome.Outcome.TheVariants as outcome
 use Rattle.fx_top.specs.declared.run.TheConstants.{MOST_SCRIPT_BYTES, MOST_FILE_BYTES}
 use Rattle.fx_top.specs.Bytes.{lines_of}
 use Rattle.fx_top.specs.Command.{IsCommand}
+use Rattle.fx_top.specs.Message.{line_of}
 use Rattle.fx_top.specs.Load.{Reads, StopsAt, IsCause, IsTooMany}
 use Rattle.fx_top.specs.Run.{run_of}
 use Rattle.fx_top.specs.Script.{IsScript}
+use Rattle.fx_top.specs.Syntax.{HasTokens, IsSyntax, IsNotBuilt}
 
 -- what a yield of these tables prints
 abbrev pub yield_text : List Table → List ℕ
@@ -38,6 +40,7 @@ EndsAs c q file old new outcome.Usage = ⊥
 EndsAs c q file old new (outcome.FileFault name) = ⊥
 EndsAs c q file old new (outcome.TooLong name taken) = ⊥
 EndsAs c q file old new outcome.NotBuilt = ⊥
+EndsAs c q file old new (outcome.Syntax place deep) = ⊥
 
 -- a file is told to hold these bytes, within a limit
 pub record IsTold (told : Told) (name : List ℕ) (limit : ℕ) (bytes : List ℕ) : Type 0 where
@@ -55,6 +58,7 @@ pub record Asks (told : Told) (words : List (List ℕ)) (c : Command) (q : Query
   pub command : IsCommand words c
   pub script : List ℕ
   pub script_file : IsTold told c.script MOST_SCRIPT_BYTES script
+  pub tokens : HasTokens script
   pub query : IsScript script q
 
 -- a run over the bytes of the command's file
@@ -71,20 +75,21 @@ abbrev pub Reaches : Told → List (List ℕ) → List ℕ → ℕ → Type 0
 Reaches told words name limit =
     ((c : Command) × (IsCommand words c × (name ≡ c.script) × (limit ≡ MOST_SCRIPT_BYTES))) ⊎ ((c : Command) × (q : Query) × (Asks told words c q × (name ≡ c.file) × (limit ≡ MOST_FILE_BYTES)))
 
--- the command's script has another form than the one that runs
-pub record IsOther (told : Told) (words : List (List ℕ)) : Type 0 where
+-- the words are a command, whose script has the property
+pub record HasScript (P : List ℕ → Type 0) (told : Told) (words : List (List ℕ)) : Type 0 where
   pub command : Command
   pub is_command : IsCommand words command
   pub script : List ℕ
   pub script_file : IsTold told command.script MOST_SCRIPT_BYTES script
-  pub other : (q : Query) → IsScript script q → ⊥
+  pub has : P script
 
 -- the answers over files that tell their content, in the order of the refusals
 abbrev pub Answers : Told → List (List ℕ) → Option (List ℕ) → Option (List ℕ) → Outcome → Type 0
 Answers told words old new outcome.Usage = ((c : Command) → IsCommand words c → ⊥) × (new ≡ old)
 Answers told words old new (outcome.FileFault name) = (limit : ℕ) × Reaches told words name limit × (new ≡ old)
 Answers told words old new (outcome.TooLong name taken) = (limit : ℕ) × Reaches told words name limit × IsLong told name limit × (taken ≡ limit + 1) × (new ≡ old)
-Answers told words old new outcome.NotBuilt = IsOther told words × (new ≡ old)
+Answers told words old new (outcome.Syntax place deep) = HasScript (λ script. IsSyntax script place.at deep) told words × (new ≡ old)
+Answers told words old new outcome.NotBuilt = HasScript IsNotBuilt told words × (new ≡ old)
 Answers told words old new outcome.Memory = (new ≡ old) ⊎ Runs told words old new outcome.Memory
 Answers told words old new o = Runs told words old new o
 
@@ -108,3 +113,15 @@ Causes files files' out out' o = (files' ≡ files) × (out' ≡ out)
 abbrev pub NamesFile : List (List ℕ) → Outcome → Type 0
 NamesFile words (outcome.FileFault name) = (c : Command) × IsCommand words c × ((name ≡ c.script) ⊎ (name ≡ c.file))
 NamesFile words o = Unit {0}
+
+-- the script whose place the outcome's line shows is the command's
+abbrev pub Shows : Told → List (List ℕ) → Outcome → List ℕ → Type 0
+Shows told words (outcome.Syntax place deep) script = (c : Command) × IsCommand words c × (told c.script ≡ Some script)
+Shows told words (outcome.Fault fault) script = (c : Command) × IsCommand words c × (told c.script ≡ Some script)
+Shows told words o script = Unit {0}
+
+-- the outcome's line was written, whatever the files tell; where they tell their content it shows places of the script
+pub record IsSaid (content : Option Told) (words : List (List ℕ)) (old new : Option (List ℕ)) (o : Outcome) : Type 0 where
+  pub script : List ℕ
+  pub shows : (told : Told) → content ≡ Some told → Shows told words o script
+  pub line : new ≡ appended old (line_of script o)

@@ -7,3 +7,4 @@ pub mod Message
 pub mod Run
 pub mod Script
 pub mod Stage
+pub mod Syntax

@@ -9,6 +9,7 @@ mod load;
 mod main_call;
 mod message;
 mod outcome;
+mod place;
 mod run;
 mod script;
 mod source;

@@ -1,7 +1,6 @@
-ghost use Rattle.std.specs.Prelude.{◌≡◌, ◌≢◌, ℕ, List, Some};
-ghost use Rattle.fx_base.specs.Outside.{Told, Rose, appended};
-ghost use Rattle.fx_top.specs.Answer.{Answers, Causes, Writes, NamesFile};
-ghost use Rattle.fx_top.specs.Message.{line_of};
+ghost use Rattle.std.specs.Prelude.{◌≡◌, ◌≢◌, Some};
+ghost use Rattle.fx_base.specs.Outside.{Told, Rose};
+ghost use Rattle.fx_top.specs.Answer.{Answers, Causes, Writes, NamesFile, IsSaid};
 
 use crate::message::tell;
 use crate::outcome::Outcome;
@@ -30,8 +29,8 @@ pub fn flux_main<F: Files, O: Sink, E: Sink, L: Ledger>(
     ensures causes { Causes (F.faults files.old) (F.faults files.new) (O.faults out.old) (O.faults out.new) result }
     ensures writes { Writes (O.written out.old) (O.written out.new) result }
     ensures names { NamesFile words.now result }
-    ensures said { (script : List ℕ) → result ≢ Outcome.Memory → (Rose (E.faults err.old) (E.faults err.new) → ⊥) → E.written err.new ≡ appended (E.written err.old) (line_of script result) }
+    ensures said { result ≢ Outcome.Memory → (Rose (E.faults err.old) (E.faults err.new) → ⊥) → IsSaid (F.content files.old) words.now (E.written err.old) (E.written err.new) result }
 {
-    let outcome = run(alloc, words, files, out, steps);
-    tell(alloc, outcome, err)
+    let ended = run(alloc, words, files, out, steps);
+    tell(alloc, ended.outcome, ended.script.as_slice(), err)
 }

@@ -1,20 +1,21 @@
 ghost use Rattle.std.specs.Prelude.{◌≡◌, ◌≢◌, ℕ, List, IfOk, ◌⊎◌, string_bytes};
 ghost use Rattle.fx_base.specs.Outside.{appended, Rose};
-ghost use Rattle.fx_top.specs.Message.{line_of, cause_text, error_text, fault_text, IsAtStart};
+ghost use Rattle.fx_top.specs.Message.{line_of, cause_text, error_text, fault_text, syntax_text};
 
 use crate::cause::LineCause;
 use crate::outcome::Outcome;
+use crate::place::{column_at, line_at};
 use fx_base::{FaultKind, Memory, Sink, SinkFault};
 use fx_line::LineError;
 use std::alloc::Global;
 
-/// Writes the outcome's line. A fault of the sink changes no outcome; want of memory does.
-pub fn tell<E: Sink>(alloc: Global, outcome: Outcome, err: &mut E) -> Outcome
-    requires start { IsAtStart outcome }
+/// Writes the outcome's line, which may show a place of the script. A fault of the sink changes no
+/// outcome; want of memory does.
+pub fn tell<E: Sink>(alloc: Global, outcome: Outcome, script: &[u8], err: &mut E) -> Outcome
     ensures kept { (result ≡ outcome) ⊎ (result ≡ Outcome.Memory) }
-    ensures said { (script : List ℕ) → result ≢ Outcome.Memory → (Rose (E.faults err.old) (E.faults err.new) → ⊥) → E.written err.new ≡ appended (E.written err.old) (line_of script result) }
+    ensures said { result ≢ Outcome.Memory → (Rose (E.faults err.old) (E.faults err.new) → ⊥) → E.written err.new ≡ appended (E.written err.old) (line_of script.now result) }
 {
-    match message(alloc, &outcome) {
+    match message(alloc, &outcome, script) {
         Err(Memory) => Outcome::Memory,
         Ok(line) => match err.write(line.as_bytes()) {
             Ok(()) => outcome,
@@ -25,22 +26,29 @@ pub fn tell<E: Sink>(alloc: Global, outcome: Outcome, err: &mut E) -> Outcome
 }
 
 /// The outcome's line on standard error.
-fn message(alloc: Global, outcome: &Outcome) -> Result<String, Memory>
-    requires start { IsAtStart outcome.now }
-    ensures { (script : List ℕ) → IfOk result (λ text. string_bytes text ≡ line_of script outcome.now) }
+fn message(alloc: Global, outcome: &Outcome, script: &[u8]) -> Result<String, Memory>
+    ensures { IfOk result (λ text. string_bytes text ≡ line_of script.now outcome.now) }
 {
     match outcome {
         Outcome::Done => Ok(String::new(alloc)),
         Outcome::Usage => Ok(format!(in alloc; "usage: fluxrun COMMAND ARGUMENTS\n")?),
         Outcome::FileFault { name } => Ok(format!(in alloc; "fluxrun: {name}: cannot read\n")?),
         Outcome::TooLong { name, .. } => Ok(format!(in alloc; "fluxrun: {name}: too long\n")?),
+        Outcome::Syntax { place, deep } => {
+            let (line, column) = (line_at(script, place.at), column_at(script, place.at));
+            let cause = syntax_name(*deep);
+            Ok(format!(in alloc; "fluxrun: {line}:{column}: {cause}\n")?)
+        }
         Outcome::NotBuilt => Ok(format!(in alloc; "fluxrun: not built\n")?),
         Outcome::Line { file, line, cause } => {
             let cause = cause_name(cause);
             Ok(format!(in alloc; "fluxrun: {file}:{line}: {cause}\n")?)
         }
         Outcome::Fault { fault } => {
-            let (line, column) = (1u64, 1u64);
+            let (line, column) = (
+                line_at(script, fault.place.at),
+                column_at(script, fault.place.at),
+            );
             let kind = fault_name(fault.kind);
             Ok(format!(in alloc; "fluxrun: {line}:{column}: fault {kind}\n")?)
         }
@@ -50,6 +58,12 @@ fn message(alloc: Global, outcome: &Outcome) -> Result<String, Memory>
             Ok(format!(in alloc; "fluxrun: {file}:{line}: too many points\n")?)
         }
     }
+}
+
+fn syntax_name(deep: bool) -> &'static str
+    ensures { result.now ≡ syntax_text deep }
+{
+    if deep { "nested too deep" } else { "syntax" }
 }
 
 fn cause_name(cause: &LineCause) -> &'static str

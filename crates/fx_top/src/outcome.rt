@@ -2,7 +2,7 @@ ghost use Rattle.std.specs.Prelude.{◌≡◌};
 ghost use Rattle.fx_top.specs.Message.{status_of};
 
 use crate::cause::LineCause;
-use fx_base::{Fault, Text};
+use fx_base::{Fault, Place, Text};
 
 /// How a call of the program ends.
 #[derive(Debug, PartialEq, Eq, Drop)]
@@ -19,6 +19,11 @@ pub enum Outcome {
     TooLong {
         name: Text,
         taken: u64,
+    },
+    /// The script isn't UTF-8, or has no tokens, from this place on.
+    Syntax {
+        place: Place,
+        deep: bool,
     },
     /// The script has a form that isn't built yet.
     NotBuilt,
@@ -54,6 +59,7 @@ impl Outcome {
             Outcome::FileFault { .. } => 2,
             Outcome::TooLong { .. } => 3,
             Outcome::Line { .. } => 4,
+            Outcome::Syntax { .. } => 5,
             Outcome::Fault { .. } => 7,
             Outcome::SinkFault => 9,
             Outcome::Memory => 10,

@@ -3,14 +3,13 @@ ghost use Rattle.fx_base.specs.Outside.{Told};
 ghost use Rattle.fx_line.specs.Stored.{StoredPoint};
 ghost use Rattle.fx_series.specs.Store.{StandsFor};
 ghost use Rattle.fx_top.specs.Command.{IsCommand};
-ghost use Rattle.fx_top.specs.Answer.{Answers, Asks, Causes, EndsAs, Writes, NamesFile};
-ghost use Rattle.fx_top.specs.Message.{IsAtStart};
+ghost use Rattle.fx_top.specs.Answer.{Answers, Asks, Causes, EndsAs, IsTold, Writes, NamesFile, Shows};
 ghost use Rattle.fx_top.specs.Stage.{FileAnswers, FileCauses, RunCauses, DataAnswers, StopAnswers, IsKept};
 
 use crate::command::{Command, read_words};
 use crate::load::{LoadStop, load_file};
 use crate::outcome::Outcome;
-use crate::script::{Query, read_script};
+use crate::script::{Query, ScriptStop, read_script};
 use crate::source::query_tables;
 use fx_base::{Fault, FaultKind, FileFault, Files, Memory, Place, Sink, SinkFault, Steps, Text};
 use fx_csv::write_yield;
@@ -24,6 +23,23 @@ pub const MOST_SCRIPT_BYTES: u64 = 65_536;
 /// How many bytes a data file may have.
 pub const MOST_FILE_BYTES: u64 = 67_108_864;
 
+/// How a run ended, and the script whose places the line of its outcome shows.
+#[derive(Drop)]
+pub struct Ended {
+    pub outcome: Outcome,
+    pub script: Vec<u8>,
+}
+
+/// Ended before a script was read.
+fn without_script(alloc: Global, outcome: Outcome) -> Ended
+    ensures { result.outcome ≡ outcome }
+{
+    Ended {
+        outcome,
+        script: Vec::new(alloc),
+    }
+}
+
 /// Runs the words of a command line.
 pub fn run<F: Files, O: Sink, L: Ledger>(
     alloc: Global,
@@ -31,42 +47,63 @@ pub fn run<F: Files, O: Sink, L: Ledger>(
     files: &mut F,
     out: &mut O,
     steps: &mut Steps<L>,
-) -> Outcome
-    ensures answers { (told : Told) → F.content files.old ≡ Some told → Answers told words.now (O.written out.old) (O.written out.new) result }
-    ensures causes { Causes (F.faults files.old) (F.faults files.new) (O.faults out.old) (O.faults out.new) result }
-    ensures writes { Writes (O.written out.old) (O.written out.new) result }
-    ensures names { NamesFile words.now result }
-    ensures start { IsAtStart result }
+) -> Ended
+    ensures answers { (told : Told) → F.content files.old ≡ Some told → Answers told words.now (O.written out.old) (O.written out.new) result.outcome }
+    ensures shows { (told : Told) → F.content files.old ≡ Some told → Shows told words.now result.outcome result.script.items }
+    ensures causes { Causes (F.faults files.old) (F.faults files.new) (O.faults out.old) (O.faults out.new) result.outcome }
+    ensures writes { Writes (O.written out.old) (O.written out.new) result.outcome }
+    ensures names { NamesFile words.now result.outcome }
 {
     match read_words(alloc, words) {
-        Err(_) => Outcome::Memory,
-        Ok(None) => Outcome::Usage,
+        Err(_) => without_script(alloc, Outcome::Memory),
+        Ok(None) => without_script(alloc, Outcome::Usage),
         Ok(Some(command)) => run_command(alloc, &command, files, out, steps),
     }
 }
 
-/// Loads a script and runs its query.
+/// Loads a script and runs it.
 fn run_command<F: Files, O: Sink, L: Ledger>(
     alloc: Global,
     command: &Command,
     files: &mut F,
     out: &mut O,
     steps: &mut Steps<L>,
+) -> Ended
+    ensures answers { (told : Told) (words : List (List ℕ)) → F.content files.old ≡ Some told → IsCommand words command.now → Answers told words (O.written out.old) (O.written out.new) result.outcome }
+    ensures shows { (told : Told) (words : List (List ℕ)) → F.content files.old ≡ Some told → IsCommand words command.now → Shows told words result.outcome result.script.items }
+    ensures causes { Causes (F.faults files.old) (F.faults files.new) (O.faults out.old) (O.faults out.new) result.outcome }
+    ensures writes { Writes (O.written out.old) (O.written out.new) result.outcome }
+    ensures names { (words : List (List ℕ)) → IsCommand words command.now → NamesFile words result.outcome }
+{
+    match load(alloc, &command.script, MOST_SCRIPT_BYTES, files) {
+        Ok(script) => Ended {
+            outcome: run_script(alloc, command, script.as_slice(), files, out, steps),
+            script,
+        },
+        Err(refusal) => without_script(alloc, refusal),
+    }
+}
+
+/// Reads a script and runs its query.
+fn run_script<F: Files, O: Sink, L: Ledger>(
+    alloc: Global,
+    command: &Command,
+    script: &[u8],
+    files: &mut F,
+    out: &mut O,
+    steps: &mut Steps<L>,
 ) -> Outcome
-    ensures answers { (told : Told) (words : List (List ℕ)) → F.content files.old ≡ Some told → IsCommand words command.now → Answers told words (O.written out.old) (O.written out.new) result }
+    requires bytes { length script.now ≤ MOST_SCRIPT_BYTES }
+    ensures answers { (told : Told) (words : List (List ℕ)) → F.content files.old ≡ Some told → IsCommand words command.now → IsTold told command.now.script MOST_SCRIPT_BYTES script.now → Answers told words (O.written out.old) (O.written out.new) result }
     ensures causes { Causes (F.faults files.old) (F.faults files.new) (O.faults out.old) (O.faults out.new) result }
     ensures writes { Writes (O.written out.old) (O.written out.new) result }
     ensures names { (words : List (List ℕ)) → IsCommand words command.now → NamesFile words result }
-    ensures start { IsAtStart result }
 {
-    let script = match load(alloc, &command.script, MOST_SCRIPT_BYTES, files) {
-        Ok(script) => script,
-        Err(refusal) => return refusal,
-    };
-    match read_script(alloc, script.as_slice()) {
-        Err(_) => Outcome::Memory,
-        Ok(None) => Outcome::NotBuilt,
-        Ok(Some(query)) => run_query(alloc, command, &query, files, out, steps),
+    match read_script(alloc, script) {
+        Ok(query) => run_query(alloc, command, &query, files, out, steps),
+        Err(ScriptStop::Syntax { place, deep }) => Outcome::Syntax { place, deep },
+        Err(ScriptStop::NotBuilt) => Outcome::NotBuilt,
+        Err(ScriptStop::Memory) => Outcome::Memory,
     }
 }
 
@@ -83,7 +120,6 @@ fn run_query<F: Files, O: Sink, L: Ledger>(
     ensures causes { Causes (F.faults files.old) (F.faults files.new) (O.faults out.old) (O.faults out.new) result }
     ensures writes { Writes (O.written out.old) (O.written out.new) result }
     ensures names { (words : List (List ℕ)) → IsCommand words command.now → NamesFile words result }
-    ensures start { IsAtStart result }
 {
     match load(alloc, &command.file, MOST_FILE_BYTES, files) {
         Ok(file) => run_over(alloc, command, query, file.as_slice(), out, steps),

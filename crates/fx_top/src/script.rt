@@ -1,10 +1,13 @@
-ghost use Rattle.std.specs.Prelude.{◌≡◌, ◌≢◌, ℕ, ℤ, List, [], ◌∷◌, ◌++◌, length, IfOk, IfSome, IfNone, MatchOption, ◌↔◌, IsTrue, ◌⊎◌, true};
+ghost use Rattle.std.specs.Prelude.{◌≡◌, ◌≢◌, ℕ, ℤ, List, [], ◌∷◌, ◌++◌, length, IfOk, IfSome, IfNone, MatchOption, ◌↔◌, IsTrue, ◌⊎◌, true, false, ◌≤◌};
 ghost use Rattle.std.specs.List.{list_all};
 ghost use Rattle.fx_top.specs.Script.{IsScript, IsFrom, IsRange, IsMoment, IsEnd, is_name_byte};
+ghost use Rattle.fx_top.specs.Syntax.{ScriptAnswers, TokenAnswers};
 ghost use Rattle.fx_top.specs.declared.script.Query.{Query};
+ghost use Rattle.fx_top.specs.declared.script.ScriptStop.TheVariants as ScriptStop;
 
 use crate::bytes::{after, cut};
-use fx_base::{Memory, Text, TextFault};
+use fx_base::{Memory, Place, Text, TextFault};
+use fx_scan::{ScanFault, scan};
 use fx_time::read_time;
 use std::alloc::Global;
 
@@ -17,8 +20,59 @@ pub struct Query {
     pub stop: i64,
 }
 
-/// Reads a script. None says that it has another form than the one that runs today.
-pub fn read_script(alloc: Global, script: &[u8]) -> Result<Option<Query>, Memory>
+/// Why a script doesn't run.
+#[derive(Clone, Copy, Debug, PartialEq, Eq)]
+pub enum ScriptStop {
+    /// It is no text, or has no tokens, from this place on.
+    Syntax { place: Place, deep: bool },
+    /// It has another form than the one that runs today.
+    NotBuilt,
+    Memory,
+}
+
+/// Reads a script: its text, its tokens and its query.
+pub fn read_script(alloc: Global, script: &[u8]) -> Result<Query, ScriptStop>
+    requires { length script.now ≤ 65536 }
+    ensures { ScriptAnswers script.now result }
+{
+    check_tokens(alloc, script)?;
+    match read_query(alloc, script) {
+        Ok(Some(query)) => Ok(query),
+        Ok(None) => Err(ScriptStop::NotBuilt),
+        Err(_) => Err(ScriptStop::Memory),
+    }
+}
+
+/// Whether the script is a text that has tokens.
+fn check_tokens(alloc: Global, script: &[u8]) -> Result<(), ScriptStop>
+    requires { length script.now ≤ 65536 }
+    ensures { TokenAnswers script.now result }
+{
+    let text = match Text::read(alloc, script) {
+        Ok(text) => text,
+        Err(TextFault::NotUtf8 { at }) => return Err(no_syntax(at)),
+        Err(TextFault::Memory) => return Err(ScriptStop::Memory),
+    };
+    match scan(alloc, &text) {
+        Ok(_) => Ok(()),
+        Err(ScanFault::NoToken { place }) => Err(ScriptStop::Syntax { place, deep: false }),
+        Err(ScanFault::Memory) => Err(ScriptStop::Memory),
+    }
+}
+
+/// Bytes from `at` on are no text.
+fn no_syntax(at: u64) -> ScriptStop
+    requires { at ≤ 65536 }
+    ensures { result ≡ ScriptStop.Syntax (record { at = at }) false }
+{
+    ScriptStop::Syntax {
+        place: Place { at: at as u32 },
+        deep: false,
+    }
+}
+
+/// Reads a query. None says that the script has another form.
+fn read_query(alloc: Global, script: &[u8]) -> Result<Option<Query>, Memory>
     ensures { IfOk result (λ o. MatchOption o ((q : Query) → IsScript script.now q → ⊥) (λ q. IsScript script.now q)) }
 {
     let Some((name, range)) = read_from(script) else {

@@ -131,6 +131,13 @@ fn answers_what_its_files_and_streams_allow(rt: HostRuntime) -> Result<(), Fail>
             ..good
         },
         Case {
+            script: "a = 1\n b = 01\n",
+            status: 5,
+            out: b"",
+            err: "fluxrun: 2:6: syntax\n",
+            ..good
+        },
+        Case {
             script: " ",
             status: 13,
             out: b"",

@@ -3,7 +3,8 @@ use Rattle.fx_top.proofs.main_call.flux_main.Goals as goal
 
 pub returns-clause-answers : goal.returns-clause-answers
 returns-clause-answers g c = λ told tells.
-    told_answers told c.args.words.now (g.O.Sink.written c.args.out.now) (g.O.Sink.written c.run-outcome.new.out) c.run-outcome.result c.tell.result c.tell.ensures.kept (c.run-outcome.ensures.answers told tells)
+    told_answers told c.args.words.now (g.O.Sink.written c.args.out.now) (g.O.Sink.written c.run-ended.new.out) c.run-ended.result.outcome c.tell.result c.tell.ensures.kept (c.run-ended.ensures.answers told tells)
 
 pub returns-clause-writes : goal.returns-clause-writes
-returns-clause-writes g c = told_writes (g.O.Sink.written c.args.out.now) (g.O.Sink.written c.run-outcome.new.out) c.run-outcome.result c.tell.result c.tell.ensures.kept c.run-outcome.ensures.writes
+returns-clause-writes g c =
+    told_writes (g.O.Sink.written c.args.out.now) (g.O.Sink.written c.run-ended.new.out) c.run-ended.result.outcome c.tell.result c.tell.ensures.kept c.run-ended.ensures.writes

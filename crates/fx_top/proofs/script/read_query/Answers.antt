@@ -1,7 +1,7 @@
 use Rattle.std.proofs.Common.{subst, ap, Err}
 use Rattle.fx_top.specs.Script.{IsRange}
 use Rattle.fx_top.proofs.ScriptLemmas.{same_from, name_is_text}
-use Rattle.fx_top.proofs.script.read_script.Goals as goal
+use Rattle.fx_top.proofs.script.read_query.Goals as goal
 
 pub returns-in_default : goal.returns-in_default
 returns-in_default c = λ q s. c.in_default.ensures.none q.bucket s.rest s.from
