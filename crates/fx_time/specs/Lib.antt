@@ -1,4 +1,5 @@
 pub mod Calendar
+pub mod Fields
 pub mod Front
 pub mod March
 pub mod Months

@@ -2,6 +2,7 @@
 #![tactic(auto)]
 
 mod calendar;
+mod fields;
 mod front;
 mod print;
 mod read;
@@ -11,6 +12,7 @@ mod span;
 mod tests;
 mod window;
 
+pub use fields::{TimeFields, fields_of};
 pub use print::{print_time, push_time};
 pub use read::read_time;
 pub use round_trip::printed_and_read;

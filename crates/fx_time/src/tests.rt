@@ -1,6 +1,6 @@
 use crate::{
-    Span, add_span, is_window, is_window_pair, print_time, printed_and_read, push_time, read_time,
-    window_of, windows_at,
+    Span, add_span, fields_of, is_window, is_window_pair, print_time, printed_and_read, push_time,
+    read_time, window_of, windows_at,
 };
 use std::test::Fail;
 
@@ -100,6 +100,54 @@ fn prints_times(rt: HostRuntime) -> Result<(), Fail> {
         assert_eq!(rt; printed_and_read(t), Some(t), "{wanted}");
     }
     Ok(())
+}
+
+#[test]
+fn tells_fields(rt: HostRuntime) {
+    for (t, date, (year_day, week_day), clock, nanosecond) in [
+        (0, (1970, 1, 1), (1, 4), (0, 0, 0), 0),
+        (-1, (1969, 12, 31), (365, 3), (23, 59, 59), 999_999_999),
+        (i64::MIN, (1677, 9, 21), (264, 2), (0, 12, 43), 145_224_192),
+        (i64::MAX, (2262, 4, 11), (101, 5), (23, 47, 16), 854_775_807),
+        (
+            951_827_405_000_000_000,
+            (2000, 2, 29),
+            (60, 2),
+            (12, 30, 5),
+            0,
+        ),
+        (
+            1_677_628_800_000_000_000,
+            (2023, 3, 1),
+            (60, 3),
+            (0, 0, 0),
+            0,
+        ),
+        (
+            1_719_163_805_000_000_007,
+            (2024, 6, 23),
+            (175, 0),
+            (17, 30, 5),
+            7,
+        ),
+        (
+            1_735_603_200_000_000_000,
+            (2024, 12, 31),
+            (366, 2),
+            (0, 0, 0),
+            0,
+        ),
+    ] {
+        let fields = fields_of(t);
+        assert_eq!(rt; (fields.year, fields.month, fields.day), date, "{t}");
+        assert_eq!(rt;
+            (fields.year_day, fields.week_day),
+            (year_day, week_day),
+            "{t}"
+        );
+        assert_eq!(rt; (fields.hour, fields.minute, fields.second), clock, "{t}");
+        assert_eq!(rt; fields.nanosecond, nanosecond, "{t}");
+    }
 }
 
 const DAY: i64 = 86_400_000_000_000;
