@@ -6,6 +6,7 @@ mod chains;
 mod choice;
 mod cursor;
 mod escapes;
+mod expr;
 mod function;
 mod grammar;
 mod group;

@@ -19,7 +19,7 @@ use std::alloc::Global;
 
 impl<F: Fn(Global, &mut Cursor<'_>, u8, Phrase) -> Result<Measured, Stop>> Grammar<F> {
     #[tactic(auto, unfolding(crate::specs::ReadRuns::read_prefix, crate::specs::ReadExprs::read_phrase))]
-    fn prefixed(&self, cursor: &mut Cursor<'_>, line: u8) -> Result<Measured, Stop>
+    pub(crate) fn prefixed(&self, cursor: &mut Cursor<'_>, line: u8) -> Result<Measured, Stop>
         requires nests { Nests self.now.depth (F.pre self.now.read) (F.post self.now.read) }
         requires some { 0 < line }
         ensures { Gives tree_of (read_prefix self.now.depth line (read_level self.now.depth line) cursor.old) result cursor.new }
