@@ -26,6 +26,7 @@ mod postfix;
 mod prefixed;
 mod primary;
 mod saying;
+mod script;
 mod span;
 mod statement;
 mod stop;
