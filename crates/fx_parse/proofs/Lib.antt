@@ -43,5 +43,6 @@ pub mod TextLaws
 pub mod Texts
 pub mod Then
 pub mod Toks
+pub mod Told
 pub mod Top
 pub mod Wholes

@@ -22,4 +22,5 @@ pub mod Readings
 pub mod Refusal
 pub mod Slices
 pub mod Spans
+pub mod Telling
 pub mod Views

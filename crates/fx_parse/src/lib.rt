@@ -7,6 +7,7 @@ mod choice;
 mod cursor;
 mod escapes;
 mod expr;
+mod fault;
 mod function;
 mod grammar;
 mod group;
@@ -32,3 +33,5 @@ mod statement;
 mod stop;
 mod tests_of_items;
 mod values;
+
+pub use fault::ParseFault;
