@@ -16,6 +16,7 @@ use fx_base::Place;
 use fx_scan::{Symbol, Word};
 use std::marker::Model;
 
+#[derive(Drop)]
 pub(crate) struct Cursor<'a> {
     left: &'a [Item],
 }

@@ -21,6 +21,7 @@ mod nodes;
 mod number;
 mod operators;
 mod outlook;
+mod parser;
 mod parts;
 mod phrase;
 mod postfix;
@@ -35,3 +36,4 @@ mod tests_of_items;
 mod values;
 
 pub use fault::ParseFault;
+pub use parser::parse;
