@@ -10,8 +10,7 @@ use Rattle.fx_parse.specs.Grammar.{IsTok, IsExpr, IsElements, elements_end, elem
 use Rattle.fx_ast.specs.Levels.{height, below, in_trees}
 use Rattle.fx_parse.specs.Readings.{Out, Bad, mapped, both, token}
 use Rattle.fx_parse.specs.ReadPrimary.{starters, begins, read_elements, read_more_elements}
-use Rattle.fx_parse.proofs.Beginnings.{expr_first}
-use Rattle.fx_parse.proofs.Begun.{expr_some}
+use Rattle.fx_parse.proofs.Beginnings.{expr_first, expr_some}
 use Rattle.fx_parse.proofs.Says.{Says, Fine, any_stop, says_token}
 use Rattle.fx_parse.proofs.Both.{Pair, OkPair}
 use Rattle.fx_parse.proofs.Far.{says_mapped}

@@ -1,5 +1,5 @@
 -- Readings of `if`.
-use Rattle.std.proofs.Common.{◌≡◌, ℕ, suc, ◌≤◌, ◌<◌, max, true, false, [], ◌∷◌, ◌++◌, Option, Some, sym, refl, ap, ◌∙◌, arith, leb}
+use Rattle.std.proofs.Common.{◌≡◌, ℕ, suc, ◌≤◌, ◌<◌, max, true, [], ◌∷◌, ◌++◌, Option, sym, refl, ap, ◌∙◌, arith, leb}
 use Rattle.std.proofs.lemmas.Bool.{cond_both, leb-true, leb-false}
 use Rattle.fx_ast.specs.Tree.{Tree, tree, if_then}
 use Rattle.fx_scan.specs.declared.symbols.Symbol.TheVariants as symbol
@@ -14,12 +14,12 @@ use Rattle.fx_parse.specs.ReadRuns.{read_choice}
 use Rattle.fx_parse.proofs.Says.{Says, Fine, any_stop, says_token}
 use Rattle.fx_parse.proofs.Both.{Pair, OkPair, says_both}
 use Rattle.fx_parse.proofs.Far.{says_mapped}
-use Rattle.fx_parse.proofs.Deep.{says_deep}
 use Rattle.fx_parse.proofs.Stops.{Low, forbidden, stops, may_follow, front_passes}
 use Rattle.fx_parse.proofs.Toks.{may_apart, a_word_item, a_zero}
 use Rattle.fx_parse.proofs.Shortest.{zero_expr, zero_low}
-use Rattle.fx_parse.proofs.Beginnings.{level_first, function_first}
+use Rattle.fx_parse.proofs.Beginnings.{level_first, function_first, choice_begun}
 use Rattle.fx_parse.proofs.Suffixes.{tall}
+use Rattle.fx_parse.proofs.Then.{says_deep}
 
 -- the parts after each word
 abbrev Else : Tree → Items → Type 0
@@ -155,29 +155,15 @@ module _ (k : ℕ) (inner : Items → Out Tree) (inner_says : 1 ≤ k → (w : I
       parts : (a b c : Tree) → suc (max (height a) (max (height b) (height c))) ≤ suc k → (height a ≤ k) × (height b ≤ k) × (height c ≤ k)
       parts a b c o = (omega arith, omega arith, omega arith)
 
-  none_says : k ≡ 0 → (x : Item) (z : Items) → is_word word.If x ≡ true → Says IsExpr (Low (suc k)) (stops 8) (x ∷ z) (Bad true (x ∷ z))
+  none_says : k ≡ 0 → (w : Items) → passes (is_word word.If) (first w) ≡ true → Says IsExpr (Low (suc k)) (stops 8) w (Bad true w)
   unfolding height
-  none_says none x z e = says_deep IsExpr (Low (suc k)) (stops 8) x
-      (record {
-        some = (a_zero ∷ [], literal a_zero, zero_expr, zero_low (suc k) (omega arith));
-        here = (
-          a_zero ∷ a_word_item word.Then ∷ a_zero ∷ a_word_item word.Else ∷ a_zero ∷ [],
-          chosen zeros,
-          choice_into zeros (x ∷ a_zero ∷ a_word_item word.Then ∷ a_zero ∷ a_word_item word.Else ∷ a_zero ∷ [])
-              (x ∷ [], a_zero ∷ a_word_item word.Then ∷ a_zero ∷ a_word_item word.Else ∷ a_zero ∷ [], (e, refl), zero_test, refl),
-        );
-        none = λ t u v ef st n o. too_tall t (choice_back (Some x) e t u v ef n).0 (choice_back (Some x) e t u v ef n).1 o;
-      })
-      z
+  none_says none w e = says_deep IsExpr (Low (suc k)) (stops 8) (a_zero ∷ [], literal a_zero, zero_expr, zero_low (suc k) (omega arith)) (is_word word.If) choice_begun
+      (λ t u v h n o. let b = choice_back (first (u ++ v)) h t u v refl n in too_tall t b.0 b.1 o) w e
     where
-      zeros : Item × (Tree × (Item × (Tree × (Item × Tree))))
-      zeros = (x, (literal a_zero, (a_word_item word.Then, (literal a_zero, (a_word_item word.Else, literal a_zero)))))
-
       too_tall : (t : Tree) (p : Item × (Tree × (Item × (Tree × (Item × Tree))))) → t ≡ chosen p → height t ≤ suc k → ⊥
       too_tall t p q o = let h : height t ≡ suc (max (height p.1.0) (max (height p.1.1.1.0) (height p.1.1.1.1.1))) = ap height q in let g : 1 ≤ height p.1.0 = tall p.1.0 in omega arith
 
   pub says_choice : (w : Items) → passes (is_word word.If) (first w) ≡ true → Says IsExpr (Low (suc k)) (stops 8) w (read_choice k inner w)
   unfolding read_choice
-  says_choice [] e = absurd (let h : false ≡ true = e in cc)
-  says_choice (x ∷ z) e = cond_both (leb 1 k) _ _ (Says IsExpr (Low (suc k)) (stops 8) (x ∷ z))
-      (λ f. full_says (leb-true 1 k f) (x ∷ z) e) (λ f. none_says (let h : k < 1 = leb-false 1 k f in omega arith) x z e)
+  says_choice w e = cond_both (leb 1 k) _ _ (Says IsExpr (Low (suc k)) (stops 8) w)
+      (λ f. full_says (leb-true 1 k f) w e) (λ f. none_says (let h : k < 1 = leb-false 1 k f in omega arith) w e)

@@ -1,5 +1,5 @@
 -- What the loops over parameters and over a block's assignments gather is what the readings give.
-use Rattle.std.proofs.Common.{◌≡◌, ℕ, zero, suc, Bool, true, false, cond, List, [], ◌∷◌, ◌++◌, Result, Ok, Err, refl, sym, ap, ◌∙◌}
+use Rattle.std.proofs.Common.{◌≡◌, ℕ, zero, suc, Bool, true, false, cond, List, [], ◌∷◌, Result, Ok, Err, refl, sym, ap, ◌∙◌}
 use Rattle.fx_ast.specs.Shape.{OfParam, OfProp, params_of, props_of}
 use Rattle.fx_ast.specs.Tree.{Tree, Default, Params, Props, no_params, more_params, no_props, more_props}
 use Rattle.fx_scan.specs.declared.symbols.Symbol.TheVariants as symbol

@@ -12,12 +12,12 @@ use Rattle.fx_parse.specs.ReadRuns.{need, read_postfix, read_prefix, read_layer}
 use Rattle.fx_parse.proofs.Says.{Says, Fine, any_stop, says_token}
 use Rattle.fx_parse.proofs.Both.{Pair, OkPair, says_both, says_same}
 use Rattle.fx_parse.proofs.Far.{says_mapped}
-use Rattle.fx_parse.proofs.Deep.{says_deep}
 use Rattle.fx_parse.proofs.Stops.{Low, stops}
 use Rattle.fx_parse.proofs.Toks.{disjoint, may_apart, a_zero}
 use Rattle.fx_parse.proofs.Shortest.{zero_level, zero_low}
-use Rattle.fx_parse.proofs.Beginnings.{front_part, level_first}
+use Rattle.fx_parse.proofs.Beginnings.{front_part, level_first, prefix_begun}
 use Rattle.fx_parse.proofs.Suffixes.{tall}
+use Rattle.fx_parse.proofs.Then.{says_deep}
 use Rattle.fx_parse.proofs.Runs.{stops_zero, says_run}
 
 prefixes_apart : (m : ℕ) → disjoint (prefixes (suc m)) (starters m) ≡ true
@@ -54,15 +54,10 @@ module _ (k m : ℕ) (operand : Items → Out Tree) (operand_says : 1 ≤ k → 
       (record { follow = λ y t v q n st. refl; some = λ y u n o. (a_zero ∷ [], literal a_zero, zero_level (suc m), zero_low k le); any = λ y. (a_zero ∷ [], literal a_zero, zero_level (suc m)) })
       (x ∷ z) (token (one_of (prefixes (suc m))) (x ∷ z)) (λ y. operand) (says_token (one_of (prefixes (suc m))) x e (x ∷ z)) (λ y r i. operand_says le r))
 
-  unsigned_says : k ≡ 0 → (x : Item) (z : Items) → one_of (prefixes (suc m)) x ≡ true → Says (IsLevel (suc m)) (Low (suc k)) (stops (suc m)) (x ∷ z) (Bad true (x ∷ z))
+  unsigned_says : k ≡ 0 → (w : Items) → passes (one_of (prefixes (suc m))) (first w) ≡ true → Says (IsLevel (suc m)) (Low (suc k)) (stops (suc m)) w (Bad true w)
   unfolding height
-  unsigned_says none x z e = says_deep (IsLevel (suc m)) (Low (suc k)) (stops (suc m)) x
-      (record {
-        some = (a_zero ∷ [], literal a_zero, zero_level (suc m), zero_low (suc k) (omega arith));
-        here = (a_zero ∷ [], tree x.place (prefix (prefix_of x.lexeme) (literal a_zero)), at_prefix x (x ∷ []) (a_zero ∷ []) (e, refl) (zero_level (suc m)) refl);
-        none = λ t u v ef st n o. too_tall t (prefix_back m (Some x) e t u v ef n).0 (prefix_back m (Some x) e t u v ef n).1 o;
-      })
-      z
+  unsigned_says none w e = says_deep (IsLevel (suc m)) (Low (suc k)) (stops (suc m)) (a_zero ∷ [], literal a_zero, zero_level (suc m), zero_low (suc k) (omega arith))
+      (one_of (prefixes (suc m))) (prefix_begun m) (λ t u v h n o. let b = prefix_back m (first (u ++ v)) h t u v refl n in too_tall t b.0 b.1 o) w e
     where
       too_tall : (t : Tree) (p : Item × Tree) → t ≡ tree p.0.place (prefix (prefix_of p.0.lexeme) p.1) → height t ≤ suc k → ⊥
       too_tall t p q o = let h : height t ≡ suc (height p.1) = ap height q in let g : 1 ≤ height p.1 = tall p.1 in omega arith
@@ -71,7 +66,7 @@ module _ (k m : ℕ) (operand : Items → Out Tree) (operand_says : 1 ≤ k → 
   unfolding read_prefix
   says_prefix [] e = absurd (let h : false ≡ true = e in cc)
   says_prefix (x ∷ z) e = cond_both (leb 1 k) _ _ (Says (IsLevel (suc m)) (Low (suc k)) (stops (suc m)) (x ∷ z))
-      (λ f. signed_says (leb-true 1 k f) x z e) (λ f. unsigned_says (let h : k < 1 = leb-false 1 k f in omega arith) x z e)
+      (λ f. signed_says (leb-true 1 k f) x z e) (λ f. unsigned_says (let h : k < 1 = leb-false 1 k f in omega arith) (x ∷ z) e)
 
 -- ---- the lines
 

@@ -1,10 +1,8 @@
 pub mod Arrays
 pub mod Beginnings
-pub mod Begun
 pub mod BodyLaws
 pub mod Both
 pub mod Choices
-pub mod Deep
 pub mod EscapeLemmas
 pub mod Far
 pub mod Functions

@@ -12,7 +12,7 @@ use Rattle.fx_ast.specs.Levels.{height, below, in_parts, in_trees, in_props}
 use Rattle.fx_parse.specs.Readings.{Out, mapped, both, token}
 use Rattle.fx_parse.specs.ReadPrimary.{read_holes, read_text, read_paren, read_elements, read_array, read_properties, read_record, read_primary}
 use Rattle.fx_parse.proofs.Arrays.{low_elements, says_elements}
-use Rattle.fx_parse.proofs.Begun.{text_begun, paren_begun}
+use Rattle.fx_parse.proofs.Beginnings.{text_begun, paren_begun}
 use Rattle.fx_parse.proofs.Both.{Pair, OkPair}
 use Rattle.fx_parse.proofs.Far.{says_mapped}
 use Rattle.fx_parse.proofs.Records.{Filled, IsFilled, LowFilled, low_filled, says_properties}

@@ -21,6 +21,10 @@ Low_of {B} M ok = (v : Items) × (b : B) × M b v × ok b
 abbrev pub any_of : {B : Type 0} (M : B → Items → Type 0) (ok : B → Type 0) → Low_of M ok → Some_of M
 any_of M ok low = (low.0, low.1, low.2)
 
+-- some phrase that the item begins
+abbrev pub Begun : {B : Type 0} → (B → Items → Type 0) → Item → Type 0
+Begun {B} M x = (v : Items) × (b : B) × M b (x ∷ v)
+
 -- a token, and then a phrase that may hang on it
 pub says_then : {B : Type 0} (test : Item → Bool) (y : Item) → test y ≡ true → (M : Item → B → Items → Type 0) (okM : Item → B → Type 0) (stop : Option Item → Bool)
     → ((x : Item) → Low_of (M x) (okM x)) → (g : Item → Items → Out B) (w : Items) → ((x : Item) (r : Items) → test x ≡ true → length r < length w → Says (M x) (okM x) stop r (g x r))
@@ -66,7 +70,7 @@ says_nothing N ok stop low none = record {
 
 -- where each phrase that begins so has too many levels
 pub says_deep : {A : Type 0} (N : A → Items → Type 0) (ok : A → Type 0) (stop : Option Item → Bool) → Low_of N ok → (test : Item → Bool)
-    → ((x : Item) → test x ≡ true → (c : Items) × (t : A) × N t (x ∷ c))
+    → ((x : Item) → test x ≡ true → Begun N x)
     → ((t : A) (u v : Items) → passes test (first (u ++ v)) ≡ true → N t u → ok t → ⊥)
     → (w : Items) → passes test (first w) ≡ true → Says N ok stop w (Bad true w)
 says_deep N ok stop low test some none [] e = absurd (let h : false ≡ true = e in cc)
@@ -80,7 +84,7 @@ says_deep N ok stop low test some none (x ∷ w) e = record {
 
 -- where no level is left, and each phrase that doesn't end at once begins so and has too many levels
 pub says_bare : {A : Type 0} (N : A → Items → Type 0) (ok : A → Type 0) (stop : Option Item → Bool) → Low_of N ok → (test : Item → Bool) (w : Items)
-    → ((x : Item) → test x ≡ true → (c : Items) × (t : A) × N t (x ∷ c))
+    → ((x : Item) → test x ≡ true → Begun N x)
     → ((t : A) (u v : Items) → first (u ++ v) ≡ first w → N t u → (passes test (first (u ++ v)) ≡ true) × (ok t → ⊥)) → Says N ok stop w (Bad (passes test (first w)) w)
 says_bare {A = A} N ok stop low test w some none = record {
   u = [];

@@ -11,7 +11,7 @@ use Rattle.fx_ast.specs.Levels.{height}
 use Rattle.fx_parse.specs.Readings.{Out, Got, Bad, mapped}
 use Rattle.fx_parse.specs.ReadFunctions.{sees_function, read_function}
 use Rattle.fx_parse.specs.ReadExprs.{read_whole}
-use Rattle.fx_parse.proofs.Begun.{paren_begun}
+use Rattle.fx_parse.proofs.Beginnings.{paren_begun}
 use Rattle.fx_parse.proofs.Choices.{says_choice}
 use Rattle.fx_parse.proofs.Far.{Used, says_far, used_by, used_none}
 use Rattle.fx_parse.proofs.Functions.{says_function}

@@ -1,6 +1,5 @@
 use Rattle.std.proofs.Common.{[], length, map}
-use Rattle.fx_ast.specs.Shape.{OfProp, prop, props_of, shape}
-use Rattle.fx_ast.specs.Tree.{Tree}
+use Rattle.fx_ast.specs.Shape.{prop, shape}
 use Rattle.fx_parse.specs.declared.function.Contents.{Contents}
 use Rattle.fx_parse.specs.Gathering.{block_from}
 use Rattle.fx_parse.specs.ReadExprs.{read_expr}

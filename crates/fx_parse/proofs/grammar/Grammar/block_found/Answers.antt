@@ -4,7 +4,6 @@ use Rattle.fx_parse.specs.declared.function.Contents.{Contents}
 use Rattle.fx_parse.specs.Gathering.{binding_view, block_from}
 use Rattle.fx_parse.specs.Nests.{tree_of}
 use Rattle.fx_parse.specs.ReadExprs.{read_expr}
-use Rattle.fx_parse.specs.Readings.{Got}
 use Rattle.fx_parse.proofs.GatherLaws.{fails_as, block_end, block_end_bad, block_next, block_bad, block_none, pushed_prop}
 use Rattle.fx_parse.proofs.ListTurns.{one_more, no_more}
 use Rattle.fx_parse.proofs.grammar.Grammar.block_found.Goals as goal
