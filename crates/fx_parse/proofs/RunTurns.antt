@@ -1,7 +1,7 @@
 -- Operators between operands, one at a time, and what they make.
 use Rattle.std.proofs.Common.{◌≡◌, ℕ, zero, suc, ◌+◌, ◌==◌, true, false, List, [], ◌∷◌, ◌++◌, length, map, refl, sym, ap, subst, ◌∙◌, append-nil, append_assoc, arith}
 use Rattle.std.proofs.lemmas.List.{map-append}
-use Rattle.std.specs.Prelude.{Bool, cond, None, Some}
+use Rattle.std.specs.Prelude.{Bool, None, Some}
 use Rattle.fx_base.specs.declared.place.Place.{Place}
 use Rattle.fx_ast.specs.declared.expr.Expr.{Expr}
 use Rattle.fx_ast.specs.declared.expr.Infix.{Infix}
@@ -12,11 +12,11 @@ use Rattle.fx_ast.proofs.ShapeLaws.{link_is}
 use Rattle.fx_parse.specs.declared.item.Item.{Item}
 use Rattle.fx_parse.specs.Grammar.{Link, calls_of, links_of as links_made, run}
 use Rattle.fx_parse.specs.Items.{Items, one_of, passes, first, start, infix_of, operators, prefixes}
-use Rattle.fx_parse.specs.Operations.{operation, call_of}
+use Rattle.fx_parse.specs.Operations.{operation, call_of, operand_of, operations}
 use Rattle.fx_parse.specs.Readings.{Out, Got, Bad, mapped, go_on, both, links}
 use Rattle.fx_parse.specs.declared.phrase.Phrase.{Phrase}
 use Rattle.fx_parse.specs.declared.phrase.Phrase.TheVariants.{Whole, Called, Line}
-use Rattle.fx_parse.specs.ReadExprs.{read_called, read_expr, read_phrase}
+use Rattle.fx_parse.specs.ReadExprs.{read_called, read_expr, read_level, read_phrase}
 use Rattle.fx_parse.specs.ReadRuns.{has_room, read_link, operator_run, read_run, read_layer, read_prefix, read_postfix}
 use Rattle.fx_parse.proofs.ListTurns.{mapped_twice, mapped_by}
 
@@ -154,34 +154,30 @@ run_after : (k m : ℕ) (operand : Items → Out Tree) (p : Place) (o : Out Tree
 run_after k m operand p (Got t r) = mapped_twice (λ (q : Tree × List Link). run (suc m) p q.0 q.1) (λ z. (t, z)) (links (operator_run k m operand) (length r) (Some t) r)
 run_after k m operand p (Bad d r) = refl
 
-module _ (k : ℕ) (inner : Items → Out Tree) (read : ℕ → Items → Out Tree) (called : Items → Out Tree) where
-  pub layer_prefixed : (m : ℕ) (w : Items) → passes (one_of (prefixes (suc m))) (first w) ≡ false
-      → read_layer k inner read called (suc m) w ≡ go_on (read_layer k inner read called m w)
-      (λ t r. mapped (run (suc m) (start w) t) (links (operator_run k m (cond (m == 1) called (read m))) (length r) (Some t) r))
-  unfolding read_layer read_run
-  layer_prefixed m w e = rw e (run_after k m (cond (m == 1) called (read m)) (start w) (read_layer k inner read called m w))
+module _ (k : ℕ) where
+  pub level_postfix : (line : ℕ) (w : Items) → line ≡ 0 → read_level (suc k) line w ≡ read_postfix false k k (read_expr k) (read_expr k) w
+  unfolding read_expr read_layer
+  level_postfix line w none = ap (λ n. read_level (suc k) n w) none
 
-  pub layer_postfix : (line : ℕ) (w : Items) → line ≡ 0 → read_layer k inner read called line w ≡ read_postfix false k k inner inner w
-  unfolding read_layer
-  layer_postfix line w none = ap (λ n. read_layer k inner read called n w) none
-
-  sign_at : (m : ℕ) (w : Items) → passes (one_of (prefixes (suc m))) (first w) ≡ true → read_layer k inner read called (suc m) w ≡ read_prefix k (suc m) (read (suc m)) w
-  unfolding read_layer
+  sign_at : (m : ℕ) (w : Items) → passes (one_of (prefixes (suc m))) (first w) ≡ true → read_level (suc k) (suc m) w ≡ read_prefix k (suc m) (read_level k (suc m)) w
+  unfolding read_expr read_layer
   sign_at m w e = rw e refl
 
-  pub layer_sign : (line m : ℕ) (w : Items) → line ≡ suc m → passes (one_of (prefixes line)) (first w) ≡ true → read_layer k inner read called line w ≡ read_prefix k line (read line) w
-  layer_sign line m w is e = ap (λ n. read_layer k inner read called n w) is ∙ sign_at m w (subst (λ n. passes (one_of (prefixes n)) (first w) ≡ true) is e)
-      ∙ ap (λ n. read_prefix k n (read n) w) (sym is)
+  pub level_sign : (line m : ℕ) (w : Items) → line ≡ suc m → passes (one_of (prefixes line)) (first w) ≡ true → read_level (suc k) line w ≡ read_prefix k line (read_level k line) w
+  level_sign line m w is e = ap (λ n. read_level (suc k) n w) is ∙ sign_at m w (subst (λ n. passes (one_of (prefixes n)) (first w) ≡ true) is e)
+      ∙ ap (λ n. read_prefix k n (read_level k n) w) (sym is)
 
-  pub layer_next : (line m : ℕ) (w r : Items) (t : Tree) → line ≡ suc m → passes (one_of (prefixes line)) (first w) ≡ false → read_layer k inner read called m w ≡ Got t r
-      → read_layer k inner read called line w ≡ mapped (run (suc m) (start w) t) (links (operator_run k m (cond (m == 1) called (read m))) (length r) (Some t) r)
-  layer_next line m w r t is e one = ap (λ n. read_layer k inner read called n w) is ∙ layer_prefixed m w (subst (λ n. passes (one_of (prefixes n)) (first w) ≡ false) is e)
-      ∙ ap (λ o. go_on o (λ t r. mapped (run (suc m) (start w) t) (links (operator_run k m (cond (m == 1) called (read m))) (length r) (Some t) r))) one
+  abbrev after : ℕ → Items → Tree → Items → Out Tree
+  after m w t r = mapped (run (suc m) (start w) t) (operations k m (Some t) r)
 
-  pub layer_bad : (line m : ℕ) (w r : Items) (d : Bool) → line ≡ suc m → passes (one_of (prefixes line)) (first w) ≡ false → read_layer k inner read called m w ≡ Bad d r
-      → read_layer k inner read called line w ≡ Bad d r
-  layer_bad line m w r d is e one = ap (λ n. read_layer k inner read called n w) is ∙ layer_prefixed m w (subst (λ n. passes (one_of (prefixes n)) (first w) ≡ false) is e)
-      ∙ ap (λ o. go_on o (λ t r. mapped (run (suc m) (start w) t) (links (operator_run k m (cond (m == 1) called (read m))) (length r) (Some t) r))) one
+  run_at : (m : ℕ) (w : Items) → passes (one_of (prefixes (suc m))) (first w) ≡ false → read_level (suc k) (suc m) w ≡ go_on (read_level (suc k) m w) (after m w)
+  unfolding read_expr read_layer read_run
+  run_at m w e = rw e (run_after k m (operand_of k m) (start w) (read_level (suc k) m w))
+
+  pub level_run : (line m : ℕ) (w : Items) (o : Out Tree) → line ≡ suc m → passes (one_of (prefixes line)) (first w) ≡ false → read_level (suc k) m w ≡ o
+      → read_level (suc k) line w ≡ go_on o (after m w)
+  level_run line m w o is e one = ap (λ n. read_level (suc k) n w) is ∙ run_at m w (subst (λ n. passes (one_of (prefixes n)) (first w) ≡ false) is e)
+      ∙ ap (λ o. go_on o (after m w)) one
 
 -- ---- a postfix that ends in a call, and where no level is left
 

@@ -3,8 +3,7 @@
 ghost use Rattle.std.specs.Prelude.{◌≡◌, suc};
 ghost use Rattle.fx_parse.specs.Cursor.{Gives};
 ghost use Rattle.fx_parse.specs.Nests.{Nests, tree_of};
-ghost use Rattle.fx_parse.specs.ReadExprs.{read_called, read_expr, read_level, read_phrase, read_whole};
-ghost use Rattle.fx_parse.specs.ReadRuns.{read_layer};
+ghost use Rattle.fx_parse.specs.ReadExprs.{read_called, read_expr, read_level, read_phrase};
 
 use crate::cursor::Cursor;
 use crate::grammar::Grammar;
@@ -20,7 +19,7 @@ impl<F: Fn(Global, &mut Cursor<'_>, u8, Phrase) -> Result<Measured, Stop>> Gramm
     /// A phrase of the line.
     fn line(&self, cursor: &mut Cursor<'_>, line: u8) -> Result<Measured, Stop>
         requires nests { Nests self.now.depth (F.pre self.now.read) (F.post self.now.read) }
-        ensures { Gives tree_of (read_layer self.now.depth (read_expr self.now.depth) (read_level self.now.depth) (read_called self.now.depth) line cursor.old) result cursor.new }
+        ensures { Gives tree_of (read_level (suc self.now.depth) line cursor.old) result cursor.new }
     {
         if line == 0 {
             return self.postfix(cursor, false, self.depth);
@@ -34,10 +33,10 @@ impl<F: Fn(Global, &mut Cursor<'_>, u8, Phrase) -> Result<Measured, Stop>> Gramm
     }
 
     /// An expression.
-    #[tactic(auto, unfolding(crate::specs::ReadExprs::read_whole))]
+    #[tactic(auto, unfolding(crate::specs::ReadExprs::read_whole, crate::specs::ReadExprs::read_expr))]
     fn whole(&self, cursor: &mut Cursor<'_>) -> Result<Measured, Stop>
         requires nests { Nests self.now.depth (F.pre self.now.read) (F.post self.now.read) }
-        ensures { Gives tree_of (read_whole self.now.depth (read_expr self.now.depth) (read_layer self.now.depth (read_expr self.now.depth) (read_level self.now.depth) (read_called self.now.depth) 8) cursor.old) result cursor.new }
+        ensures { Gives tree_of (read_expr (suc self.now.depth) cursor.old) result cursor.new }
     {
         if cursor.sees_word(Word::If) {
             return self.choice(cursor);
@@ -60,7 +59,7 @@ impl<F: Fn(Global, &mut Cursor<'_>, u8, Phrase) -> Result<Measured, Stop>> Gramm
     }
 
     /// A phrase with one level more than there may be below it.
-    #[tactic(auto, unfolding(crate::specs::ReadExprs::read_phrase, crate::specs::ReadExprs::read_expr))]
+    #[tactic(auto, unfolding(crate::specs::ReadExprs::read_phrase))]
     fn top_phrase(&self, cursor: &mut Cursor<'_>, phrase: Phrase) -> Result<Measured, Stop>
         requires nests { Nests self.now.depth (F.pre self.now.read) (F.post self.now.read) }
         ensures { Gives tree_of (read_phrase (suc self.now.depth) phrase cursor.old) result cursor.new }
