@@ -29,9 +29,13 @@ mod prefixed;
 mod primary;
 mod saying;
 mod script;
+#[cfg(test)]
+mod shown;
 mod span;
 mod statement;
 mod stop;
+#[cfg(test)]
+mod tests;
 mod tests_of_items;
 mod values;
 
