@@ -1,5 +1,10 @@
 pub mod Answer
+pub mod Arguments
 pub mod Binary
+pub mod Call
 pub mod Convert
+pub mod Dates
 pub mod Operand
+pub mod Parts
+pub mod Texts
 pub mod Whole

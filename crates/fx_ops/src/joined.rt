@@ -8,7 +8,7 @@ use fx_value::Scalar;
 use std::alloc::Global;
 
 /// The most bytes of a text.
-const MOST: usize = 1_048_576;
+pub const MOST: usize = 1_048_576;
 
 /// The text, or TooLarge where it has more than 1,048,576 bytes.
 pub fn limited(alloc: Global, text: &str) -> Result<Scalar, OpFault>

@@ -1,19 +1,30 @@
 //! The operators of the language on scalars: each gives its value or its fault.
 #![tactic(auto)]
 
+mod arguments;
+mod call;
 mod cast;
+mod characters;
+mod dates;
 mod fault;
+mod function;
 mod infix;
 mod joined;
 mod operand;
 mod operator;
+mod parts;
+mod row;
 #[cfg(test)]
 mod tests;
+mod texts;
 mod whole;
 mod work;
 
+pub use call::scalar_call;
 pub use cast::convert;
 pub use fault::OpFault;
+pub use function::ScalarFn;
 pub use infix::binary;
 pub use operator::BinaryOp;
+pub use parts::split_text;
 pub use whole::negate;

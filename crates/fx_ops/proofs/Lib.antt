@@ -1,0 +1,5 @@
+mod CharacterLemmas
+mod DateLemmas
+mod PartLemmas
+mod RowLemmas
+mod TextLemmas

@@ -1,0 +1,26 @@
+/// The functions of `strings` and `date` that give a scalar.
+#[derive(Clone, Copy, Debug, PartialEq, Eq, PartialOrd, Ord)]
+pub enum ScalarFn {
+    ContainsStr,
+    HasPrefix,
+    HasSuffix,
+    Strlen,
+    Substring,
+    TrimPrefix,
+    TrimSuffix,
+    ReplaceAll,
+    JoinStr,
+    Repeat,
+    Year,
+    Month,
+    MonthDay,
+    YearDay,
+    WeekDay,
+    Hour,
+    Minute,
+    Second,
+    Nanosecond,
+    Truncate,
+    Add,
+    Sub,
+}

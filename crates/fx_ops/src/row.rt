@@ -1,0 +1,72 @@
+//! Texts that are put together of others. A text that is too long is not finished.
+ghost use Rattle.std.specs.Prelude.{◌≡◌, ◌<◌, ◌++◌, length, OnOk, IsErrOf};
+ghost use Rattle.std.specs.List.{flat_map, join_by, repeat};
+ghost use Rattle.std.specs.String.{string_bytes};
+ghost use Rattle.fx_base.specs.declared.fault.FaultKind.{FaultKind};
+ghost use Rattle.fx_base.specs.declared.fault.FaultKind.TheVariants.{TooLarge};
+ghost use Rattle.fx_ops.specs.Answer.{Gives};
+ghost use Rattle.fx_ops.specs.Binary.{limited};
+ghost use Rattle.fx_ops.specs.declared.fault.OpFault.TheVariants.{Kind};
+
+use crate::fault::OpFault;
+use crate::joined::{MOST, limited};
+use fx_base::FaultKind;
+use fx_value::Scalar;
+use std::alloc::Global;
+
+/// Adds a piece at the end, or is TooLarge where the text would have more than 1,048,576 bytes.
+fn add(text: &mut String, piece: &str) -> Result<(), OpFault>
+    ensures ok { OnOk result (string_bytes text.new ≡ string_bytes text.old ++ piece.now) }
+    ensures fault { (kind : FaultKind) → IsErrOf result (Kind kind) → (kind ≡ TooLarge) × (1_048_576 < length (string_bytes text.old ++ piece.now)) }
+{
+    if text.len() > MOST || piece.len() > MOST - text.len() {
+        return Err(OpFault::Kind(FaultKind::TooLarge));
+    }
+    text.push_str(piece)?;
+    Ok(())
+}
+
+/// Adds two pieces, as `add` does one.
+fn add_both(text: &mut String, first: &str, second: &str) -> Result<(), OpFault>
+    ensures ok { OnOk result (string_bytes text.new ≡ string_bytes text.old ++ (first.now ++ second.now)) }
+    ensures fault { (kind : FaultKind) → IsErrOf result (Kind kind) → (kind ≡ TooLarge) × (1_048_576 < length (string_bytes text.old ++ (first.now ++ second.now))) }
+{
+    add(text, first)?;
+    add(text, second)
+}
+
+/// The texts in a row with another between them.
+pub fn in_a_row(alloc: Global, texts: &[&str], by: &str) -> Result<Scalar, OpFault>
+    ensures { Gives (limited (join_by (λ text. text.now) by.now texts.now)) result }
+{
+    match texts {
+        [first, others @ ..] => behind(alloc, first, others, by),
+        [] => limited(alloc, ""),
+    }
+}
+
+/// A text and others behind it, each behind the one that separates them.
+fn behind(alloc: Global, first: &str, others: &[&str], by: &str) -> Result<Scalar, OpFault>
+    ensures { Gives (limited (first.now ++ flat_map (λ other. by.now ++ other.now) others.now)) result }
+{
+    let mut row = String::new(alloc);
+    add(&mut row, first)?;
+    for other in others {
+        add_both(&mut row, by, other)?;
+    }
+    limited(alloc, row.as_str())
+}
+
+/// So many copies of a text in a row.
+pub fn copies(alloc: Global, text: &str, count: u64) -> Result<Scalar, OpFault>
+    ensures { Gives (limited (repeat count text.now)) result }
+{
+    if text.is_empty() {
+        return limited(alloc, "");
+    }
+    let mut row = String::new(alloc);
+    for copy in 0..count {
+        add(&mut row, text)?;
+    }
+    limited(alloc, row.as_str())
+}
