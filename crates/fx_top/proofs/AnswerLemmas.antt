@@ -1,5 +1,5 @@
 -- How the answers of the stages make those of the whole.
-use Rattle.std.proofs.Common.{◌≡◌, ℕ, List, [], ◌∷◌, length, take, Option, None, Some, Err, refl, sym, ◌∙◌, ap, subst, append-nil, inl, inr, true, arith}
+use Rattle.std.proofs.Common.{◌≡◌, ℕ, List, [], ◌∷◌, length, take, Option, None, Some, Ok, Err, refl, sym, ◌∙◌, ap, subst, append-nil, inl, inr, Bool, true, false, arith, if◌then◌else◌}
 use Rattle.std.specs.Cmp.Lexicographic.{nat_list_eq_equiv}
 use Rattle.fx_base.specs.Text.{same_text}
 use Rattle.std.proofs.Math.Seq.{take-length}
@@ -8,7 +8,7 @@ use Rattle.fx_base.specs.Outside.{Told, appended}
 use Rattle.fx_line.specs.Stored.{StoredPoint}
 use Rattle.fx_series.specs.Store.{Kept, StandsFor}
 use Rattle.fx_top.specs.declared.command.Command.{Command}
-use Rattle.fx_top.specs.declared.script.Query.{Query}
+use Rattle.fx_top.specs.declared.query.Query.{Query}
 use Rattle.fx_top.specs.declared.load.LoadStop.{LoadStop}
 use Rattle.fx_top.specs.declared.load.LoadStop.TheVariants as load_stop
 use Rattle.fx_top.specs.declared.outcome.Outcome.{Outcome}
@@ -17,7 +17,13 @@ use Rattle.fx_top.specs.declared.run.TheConstants.{MOST_FILE_BYTES}
 use Rattle.fx_top.specs.Bytes.{lines_of}
 use Rattle.fx_top.specs.Command.{IsCommand}
 use Rattle.fx_top.specs.Load.{IsReady, Reads, FileLoads, StopsAt, IsCause}
+use Rattle.fx_top.specs.Run.{tables_of}
 use Rattle.fx_top.specs.Answer.{Answers, Asks, Causes, EndsAs, IsTold, IsLong, NamesFile, Reaches, Runs, Writes, yield_text}
+use Rattle.fx_base.specs.declared.fault.Fault.{Fault}
+use Rattle.fx_base.specs.declared.fault.FaultKind.TheVariants.{NoBucket}
+use Rattle.fx_data.specs.declared.table.Table.{Table}
+use Rattle.fx_line.specs.Stored.{grouped}
+use Rattle.fx_series.specs.Store.{is_added}
 use Rattle.fx_top.specs.Stage.{DataAnswers, FileAnswers, FileCauses, RunCauses, StopAnswers}
 
 -- nothing more is written by no bytes

@@ -35,7 +35,7 @@ use Rattle.fx_series.specs.Read.{is_in, same_kind as is_kind}
 use Rattle.fx_series.specs.Store.{Kept, StandsFor, AreOfOneKind}
 use Rattle.fx_csv.specs.Cells.{is_one_kind, same_kind}
 use Rattle.fx_csv.specs.Printed.{HasOneKind, pinned_value, value_at}
-use Rattle.fx_top.specs.declared.script.Query.{Query}
+use Rattle.fx_top.specs.declared.query.Query.{Query}
 use Rattle.fx_top.specs.Run.{Columns, with_shared, with_tags, named, columns_of, is_within, table_of, has_rows, tables_of}
 
 -- ---- the columns that all rows share

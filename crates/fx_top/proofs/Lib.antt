@@ -1,7 +1,7 @@
 pub mod BytesLemmas
 pub mod ColumnKinds
 pub mod CommandLemmas
-pub mod ScriptLemmas
 pub mod LoadLemmas
+pub mod QueryLemmas
 pub mod SourceLemmas
 pub mod AnswerLemmas

@@ -14,7 +14,7 @@ use Rattle.fx_value.specs.declared.scalar.Scalar.TheVariants as scalar
 use Rattle.fx_data.specs.declared.table.Table.{Table}
 use Rattle.fx_data.specs.Table.{IsLawfulTable}
 use Rattle.fx_data.proofs.SharedKeys.{shared_is_lawful}
-use Rattle.fx_top.specs.declared.script.Query.{Query}
+use Rattle.fx_top.specs.declared.query.Query.{Query}
 use Rattle.fx_top.specs.Run.{is_within, table_of, has_rows, columns_of}
 
 -- what lies before `stop` lies up to the moment before it

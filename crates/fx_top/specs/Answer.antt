@@ -1,11 +1,11 @@
 -- What the answers of the top call say.
-use Rattle.std.specs.Prelude.{◌≡◌, ℕ, ◌+◌, ◌<◌, ◌≤◌, List, [], ◌∷◌, length, take, codes, Option, Some, Ok, Err, ◌⊎◌}
+use Rattle.std.specs.Prelude.{◌≡◌, ℕ, ◌+◌, ◌<◌, ◌≤◌, Bool, List, [], ◌∷◌, length, take, codes, Option, Some, Ok, Err, ◌⊎◌}
 use Rattle.fx_base.specs.Outside.{Told, appended, Rose}
 use Rattle.fx_data.specs.declared.table.Table.{Table}
 use Rattle.fx_line.specs.Stored.{StoredPoint}
 use Rattle.fx_csv.specs.Printed.{printed}
 use Rattle.fx_top.specs.declared.command.Command.{Command}
-use Rattle.fx_top.specs.declared.script.Query.{Query}
+use Rattle.fx_top.specs.declared.query.Query.{Query}
 use Rattle.fx_top.specs.declared.outcome.Outcome.{Outcome}
 use Rattle.fx_top.specs.declared.outcome.Outcome.TheVariants as outcome
 use Rattle.fx_top.specs.declared.run.TheConstants.{MOST_SCRIPT_BYTES, MOST_FILE_BYTES}
@@ -14,8 +14,7 @@ use Rattle.fx_top.specs.Command.{IsCommand}
 use Rattle.fx_top.specs.Message.{line_of}
 use Rattle.fx_top.specs.Load.{Reads, StopsAt, IsCause, IsTooMany}
 use Rattle.fx_top.specs.Run.{run_of}
-use Rattle.fx_top.specs.Script.{IsScript}
-use Rattle.fx_top.specs.Syntax.{HasTokens, IsSyntax, IsNotBuilt}
+use Rattle.fx_top.specs.Syntax.{IsScript, IsSyntax, IsNotBuilt}
 
 -- what a yield of these tables prints
 abbrev pub yield_text : List Table → List ℕ
@@ -58,7 +57,6 @@ pub record Asks (told : Told) (words : List (List ℕ)) (c : Command) (q : Query
   pub command : IsCommand words c
   pub script : List ℕ
   pub script_file : IsTold told c.script MOST_SCRIPT_BYTES script
-  pub tokens : HasTokens script
   pub query : IsScript script q
 
 -- a run over the bytes of the command's file

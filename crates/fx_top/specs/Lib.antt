@@ -5,6 +5,6 @@ pub mod Labels
 pub mod Load
 pub mod Message
 pub mod Run
-pub mod Script
+pub mod Query
 pub mod Stage
 pub mod Syntax

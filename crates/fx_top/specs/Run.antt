@@ -18,7 +18,7 @@ use Rattle.fx_line.specs.declared.point.Tag.{Tag}
 use Rattle.fx_line.specs.Stored.{StoredPoint, Series, grouped}
 use Rattle.fx_series.specs.Store.{is_added}
 use Rattle.fx_series.specs.Read.{is_in}
-use Rattle.fx_top.specs.declared.script.Query.{Query}
+use Rattle.fx_top.specs.declared.query.Query.{Query}
 
 -- the columns of a row, some with a value that all rows of the table share
 abbrev pub Columns : Type 0
@@ -64,4 +64,4 @@ tables_of q series = gathered (filter has_rows (map (table_of q) (filter (is_in 
 -- what a query yields over stored points, or the fault that its bucket was not added
 abbrev pub run_of : Query → List (List ℕ) → List StoredPoint → Result (List Table) Fault
 run_of q buckets stored =
-    if is_added buckets q.bucket then Ok (tables_of q (grouped stored)) else Err (record { kind = NoBucket; place = record { at = 0 } })
+    if is_added buckets q.bucket then Ok (tables_of q (grouped stored)) else Err (record { kind = NoBucket; place = q.place })

@@ -5,7 +5,7 @@ use Rattle.std.specs.declared.alloc.Global.{Global}
 use Rattle.fx_base.specs.Outside.{Told, Rose, appended}
 use Rattle.fx_data.specs.declared.table.Table.{Table}
 use Rattle.fx_line.specs.Stored.{StoredPoint}
-use Rattle.fx_top.specs.declared.script.Query.{Query}
+use Rattle.fx_top.specs.declared.query.Query.{Query}
 use Rattle.fx_top.specs.declared.outcome.Outcome.{Outcome}
 use Rattle.fx_top.specs.declared.outcome.Outcome.TheVariants as outcome
 use Rattle.fx_series.specs.Store.{Kept, StandsFor}

@@ -1,4 +1,4 @@
-ghost use Rattle.std.specs.Prelude.{◌≡◌, ℕ, List, ◌∷◌, ◌++◌, ◌+◌, length, IfNone, IfSome, ◌≢◌};
+ghost use Rattle.std.specs.Prelude.{◌≡◌, ◌∷◌, ◌++◌, IfNone, IfSome};
 ghost use Rattle.fx_top.specs.Bytes.{IsFreeOf};
 
 /// What stands before and behind the first byte `b`.
@@ -13,12 +13,4 @@ pub fn cut(text: &[u8], b: u8) -> Option<(&[u8], &[u8])>
         }
     }
     None
-}
-
-/// What stands behind `front`, where the text begins with it.
-pub fn after<'a>(text: &'a [u8], front: &[u8]) -> Option<&'a [u8]>
-    ensures rest { IfSome result (λ rest. text.now ≡ front.now ++ rest.now) }
-    ensures none { IfNone result ((rest : List ℕ) → text.now ≢ front.now ++ rest) }
-{
-    text.strip_prefix(front)
 }

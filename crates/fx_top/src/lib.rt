@@ -10,8 +10,10 @@ mod main_call;
 mod message;
 mod outcome;
 mod place;
+mod query;
 mod run;
 mod script;
+mod slices;
 mod source;
 #[cfg(test)]
 mod tests;
@@ -20,4 +22,4 @@ pub use cause::LineCause;
 pub use command::Command;
 pub use main_call::flux_main;
 pub use outcome::Outcome;
-pub use script::Query;
+pub use query::Query;

@@ -9,9 +9,10 @@ ghost use Rattle.fx_top.specs.Stage.{FileAnswers, FileCauses, RunCauses, DataAns
 use crate::command::{Command, read_words};
 use crate::load::{LoadStop, load_file};
 use crate::outcome::Outcome;
-use crate::script::{Query, ScriptStop, read_script};
+use crate::query::Query;
+use crate::script::{ScriptStop, read_script};
 use crate::source::query_tables;
-use fx_base::{Fault, FaultKind, FileFault, Files, Memory, Place, Sink, SinkFault, Steps, Text};
+use fx_base::{Fault, FaultKind, FileFault, Files, Memory, Sink, SinkFault, Steps, Text};
 use fx_csv::write_yield;
 use fx_series::Store;
 use std::alloc::Global;
@@ -209,7 +210,7 @@ fn yield_query<O: Sink, L: Ledger>(
         return Outcome::Fault {
             fault: Fault {
                 kind: FaultKind::NoBucket,
-                place: Place { at: 0 },
+                place: query.place,
             },
         };
     }

@@ -9,7 +9,7 @@ ghost use Rattle.fx_top.specs.Labels.{AreLabels};
 ghost use Rattle.fx_top.specs.Run.{columns_of, named, with_tags, is_within, table_of, tables_of, has_rows};
 
 use crate::labels::{Labels, own_labels};
-use crate::script::Query;
+use crate::query::Query;
 use fx_base::{List, Memory, Steps, Text};
 use fx_data::{Table, Tables, gather, shared_key};
 use fx_line::{SeriesKey, Tag};

@@ -4,7 +4,7 @@ use Rattle.fx_top.proofs.run.run_script.Goals as goal
 pub returns-in-Ok-clause-answers : goal.returns-in-Ok-clause-answers
 returns-in-Ok-clause-answers g c = λ told words tells is held.
     c.run_query.ensures.answers told words tells
-    (record { command = is; script = c.args.script.now; script_file = held; tokens = c.in-Ok.ensures.0; query = c.in-Ok.ensures.1 })
+    (record { command = is; script = c.args.script.now; script_file = held; query = c.in-Ok.ensures })
 
 pub returns-in-Err-Memory-clause-writes : goal.returns-in-Err-Memory-clause-writes
 returns-in-Err-Memory-clause-writes g c = memory_writes (g.O.Sink.written c.args.out.now)

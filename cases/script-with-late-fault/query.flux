@@ -1,0 +1,4 @@
+// a comment
+
+  from(bucket: "c")
+|> range(start: 1970-01-01T00:00:00Z, stop: 1970-01-01T00:01:00Z)

@@ -1,0 +1,1 @@
+from(bucket: "b") |> range(stop: 1970-01-01T00:01:00Z, start: 1970-01-01T00:00:00Z)
