@@ -10,8 +10,8 @@ ghost use Rattle.fx_parse.specs.ReadRuns.{suffix_starters};
 ghost use Rattle.fx_parse.specs.Cursor.{Gives, taken};
 
 use crate::item::Item;
+use crate::predicates;
 use crate::stop::Stop;
-use crate::tests_of_items as test;
 use fx_base::Place;
 use fx_scan::{Symbol, Word};
 use std::marker::Model;
@@ -94,7 +94,7 @@ impl<'a> Cursor<'a> {
         ensures { result ≡ passes (is_symbol symbol) (first self.now) }
     {
         match self.left.first() {
-            Some(item) => test::is_symbol(item, symbol),
+            Some(item) => predicates::is_symbol(item, symbol),
             None => false,
         }
     }
@@ -103,7 +103,7 @@ impl<'a> Cursor<'a> {
         ensures { result ≡ passes (is_word word) (first self.now) }
     {
         match self.left.first() {
-            Some(item) => test::is_word(item, word),
+            Some(item) => predicates::is_word(item, word),
             None => false,
         }
     }
@@ -112,7 +112,7 @@ impl<'a> Cursor<'a> {
         ensures { result ≡ passes (is_name) (first self.now) }
     {
         match self.left.first() {
-            Some(item) => test::is_name(item),
+            Some(item) => predicates::is_name(item),
             None => false,
         }
     }
@@ -121,7 +121,7 @@ impl<'a> Cursor<'a> {
         ensures { result ≡ passes (is_plain) (first self.now) }
     {
         match self.left.first() {
-            Some(item) => test::is_plain(item),
+            Some(item) => predicates::is_plain(item),
             None => false,
         }
     }
@@ -130,7 +130,7 @@ impl<'a> Cursor<'a> {
         ensures { result ≡ passes (is_label) (first self.now) }
     {
         match self.left.first() {
-            Some(item) => test::is_label(item),
+            Some(item) => predicates::is_label(item),
             None => false,
         }
     }
@@ -139,7 +139,7 @@ impl<'a> Cursor<'a> {
         ensures { result ≡ passes (is_head) (first self.now) }
     {
         match self.left.first() {
-            Some(item) => test::is_head(item),
+            Some(item) => predicates::is_head(item),
             None => false,
         }
     }
@@ -148,7 +148,7 @@ impl<'a> Cursor<'a> {
         ensures { result ≡ passes (is_mid) (first self.now) }
     {
         match self.left.first() {
-            Some(item) => test::is_mid(item),
+            Some(item) => predicates::is_mid(item),
             None => false,
         }
     }
@@ -157,7 +157,7 @@ impl<'a> Cursor<'a> {
         ensures { result ≡ passes (is_tail) (first self.now) }
     {
         match self.left.first() {
-            Some(item) => test::is_tail(item),
+            Some(item) => predicates::is_tail(item),
             None => false,
         }
     }
@@ -166,7 +166,7 @@ impl<'a> Cursor<'a> {
         ensures { result ≡ passes (is_task) (first self.now) }
     {
         match self.left.first() {
-            Some(item) => test::is_called(item, "task"),
+            Some(item) => predicates::is_called(item, "task"),
             None => false,
         }
     }
@@ -175,7 +175,7 @@ impl<'a> Cursor<'a> {
         ensures { result ≡ passes (one_of suffix_starters) (first self.now) }
     {
         match self.left.first() {
-            Some(item) => test::begins_suffix(item),
+            Some(item) => predicates::begins_suffix(item),
             None => false,
         }
     }
@@ -184,7 +184,7 @@ impl<'a> Cursor<'a> {
         ensures { result ≡ passes (begins) (first self.now) }
     {
         match self.left.first() {
-            Some(item) => test::begins(item),
+            Some(item) => predicates::begins(item),
             None => false,
         }
     }
@@ -193,7 +193,7 @@ impl<'a> Cursor<'a> {
         ensures { result ≡ passes (joins) (first self.now) }
     {
         match self.left.first() {
-            Some(item) => test::joins(item),
+            Some(item) => predicates::joins(item),
             None => false,
         }
     }
@@ -268,7 +268,7 @@ impl<'a> Cursor<'a> {
         ensures { result ≡ passes (is_literal) (first self.now) }
     {
         match self.left.first() {
-            Some(item) => test::is_literal(item),
+            Some(item) => predicates::is_literal(item),
             None => false,
         }
     }
@@ -283,7 +283,7 @@ impl<'a> Cursor<'a> {
         ensures { result ≡ passes (is_with) (first self.now) }
     {
         match self.left.first() {
-            Some(item) => test::is_called(item, "with"),
+            Some(item) => predicates::is_called(item, "with"),
             None => false,
         }
     }
@@ -298,7 +298,7 @@ impl<'a> Cursor<'a> {
         ensures { result ≡ passes (is_with) (first (drop 1 self.now)) }
     {
         match self.peek_after() {
-            Some(item) => test::is_called(item, "with"),
+            Some(item) => predicates::is_called(item, "with"),
             None => false,
         }
     }

@@ -25,6 +25,7 @@ mod parser;
 mod parts;
 mod phrase;
 mod postfix;
+mod predicates;
 mod prefixed;
 mod primary;
 mod saying;
@@ -36,7 +37,6 @@ mod statement;
 mod stop;
 #[cfg(test)]
 mod tests;
-mod tests_of_items;
 mod values;
 
 pub use fault::ParseFault;

@@ -7,8 +7,8 @@ ghost use Rattle.fx_parse.specs.Readings.{token};
 
 use crate::cursor::Cursor;
 use crate::item::Item;
+use crate::predicates;
 use crate::stop::Stop;
-use crate::tests_of_items as test;
 
 /// Whether an operator before an operand of the line is next.
 #[tactic(auto, using(crate::proofs::Lines::before_item))]
@@ -17,7 +17,7 @@ pub(crate) fn sees_prefix(cursor: &Cursor<'_>, line: u8) -> bool
     ensures { result ≡ passes (one_of (prefixes line)) (first cursor.now) }
 {
     match cursor.peek() {
-        Some(item) => test::prefix_line(item) == line,
+        Some(item) => predicates::prefix_line(item) == line,
         None => false,
     }
 }
@@ -29,7 +29,7 @@ fn sees_operator_below(cursor: &Cursor<'_>, line: u8) -> bool
     ensures { result ≡ passes (one_of (operators line)) (first cursor.now) }
 {
     match cursor.peek() {
-        Some(item) => test::operator_line(item) == line,
+        Some(item) => predicates::operator_line(item) == line,
         None => false,
     }
 }

@@ -6,7 +6,7 @@ ghost use Rattle.fx_parse.specs.ReadFunctions.{sees, sees_function};
 ghost use Rattle.fx_parse.specs.Outset.{sees_parameter};
 
 use crate::cursor::Cursor;
-use crate::tests_of_items as test;
+use crate::predicates;
 use fx_scan::Symbol;
 
 /// Whether the item so many places ahead is the symbol.
@@ -15,7 +15,7 @@ fn sees_symbol(cursor: &Cursor<'_>, places: usize, symbol: Symbol) -> bool
     ensures { result ≡ sees (is_symbol symbol) places cursor.now }
 {
     match cursor.ahead(places) {
-        Some(item) => test::is_symbol(item, symbol),
+        Some(item) => predicates::is_symbol(item, symbol),
         None => false,
     }
 }
@@ -26,7 +26,7 @@ fn sees_name(cursor: &Cursor<'_>, places: usize) -> bool
     ensures { result ≡ sees is_name places cursor.now }
 {
     match cursor.ahead(places) {
-        Some(item) => test::is_name(item),
+        Some(item) => predicates::is_name(item),
         None => false,
     }
 }

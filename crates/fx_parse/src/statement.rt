@@ -16,7 +16,7 @@ use crate::grammar::Grammar;
 use crate::measured::Measured;
 use crate::phrase::Phrase;
 use crate::stop::Stop;
-use crate::{saying, tests_of_items as test};
+use crate::{predicates, saying};
 use fx_ast::{Form, Statement};
 use fx_base::{Place, Text};
 use fx_scan::{Symbol, Word};
@@ -26,7 +26,7 @@ fn assigns_after(cursor: &Cursor<'_>) -> bool
     ensures { result ≡ passes (is_symbol symbol.Assign) (first (drop 1 cursor.now)) }
 {
     match cursor.peek_after() {
-        Some(item) => test::is_symbol(item, Symbol::Assign),
+        Some(item) => predicates::is_symbol(item, Symbol::Assign),
         None => false,
     }
 }

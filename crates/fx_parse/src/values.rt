@@ -21,7 +21,7 @@ use crate::measured::Measured;
 use crate::parts::Labelled;
 use crate::phrase::Phrase;
 use crate::stop::Stop;
-use crate::{nodes, saying, tests_of_items as test};
+use crate::{nodes, predicates, saying};
 use fx_scan::Symbol;
 use std::alloc::Global;
 
@@ -37,7 +37,7 @@ impl<F: Fn(Global, &mut Cursor<'_>, u8, Phrase) -> Result<Measured, Stop>> Gramm
             cursor.symbol(Symbol::Colon)?;
             return self.inner(cursor, levels);
         }
-        if !test::is_name(label) {
+        if !predicates::is_name(label) {
             return Err(Stop::Refused { deep: false });
         }
         let name = saying::label(self.alloc, label)?;

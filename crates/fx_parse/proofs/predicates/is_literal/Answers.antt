@@ -4,7 +4,7 @@ use Rattle.fx_scan.specs.declared.symbols.Symbol.TheVariants as symbol
 use Rattle.fx_scan.specs.declared.words.Word.{Word}
 use Rattle.fx_scan.specs.declared.words.Word.TheVariants as word
 use Rattle.fx_parse.specs.Items.{among, one_of, sort, literals, a_word, a_symbol}
-use Rattle.fx_parse.proofs.tests_of_items.is_literal.Goals as goal
+use Rattle.fx_parse.proofs.predicates.is_literal.Goals as goal
 
 no_word : (x : Word) → among literals (a_word x) ≡ false
 no_word word.And = refl

@@ -2,7 +2,7 @@ use Rattle.std.proofs.Common.{refl, sym, ◌∙◌, [], ◌∷◌}
 use Rattle.fx_parse.specs.Items.{a_name, a_plain, one_of, sort}
 use Rattle.fx_parse.proofs.Sorts.{label_plain}
 use Rattle.fx_parse.proofs.Toks.{within}
-use Rattle.fx_parse.proofs.tests_of_items.is_label.Goals as goal
+use Rattle.fx_parse.proofs.predicates.is_label.Goals as goal
 
 pub returns-then-is_name : goal.returns-then-is_name
 returns-then-is_name c = c.if-is_name.true ∙ sym (within (a_name ∷ []) (a_name ∷ a_plain ∷ []) c.args.item.now refl (sym c.is_name.ensures ∙ c.if-is_name.true))

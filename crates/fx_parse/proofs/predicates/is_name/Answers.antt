@@ -2,7 +2,7 @@ use Rattle.std.proofs.Common.{sym, ap}
 use Rattle.fx_parse.specs.Items.{a_name, among, one_of, sort}
 use Rattle.std.proofs.Common.{[], ◌∷◌}
 use Rattle.fx_parse.proofs.Sorts.{not_name}
-use Rattle.fx_parse.proofs.tests_of_items.is_name.Goals as goal
+use Rattle.fx_parse.proofs.predicates.is_name.Goals as goal
 
 pub returns-in-Name : goal.returns-in-Name
 unfolding one_of

@@ -1,7 +1,7 @@
 use Rattle.std.proofs.Common.{◌∙◌}
 use Rattle.fx_parse.specs.Items.{one_of}
 use Rattle.fx_parse.proofs.Sorts.{symbol_same, not_symbol}
-use Rattle.fx_parse.proofs.tests_of_items.is_symbol.Goals as goal
+use Rattle.fx_parse.proofs.predicates.is_symbol.Goals as goal
 
 pub returns-in-Symbol : goal.returns-in-Symbol
 unfolding one_of

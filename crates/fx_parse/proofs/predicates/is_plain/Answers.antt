@@ -2,7 +2,7 @@ use Rattle.std.proofs.Common.{sym, ap}
 use Rattle.fx_parse.specs.Items.{a_plain, among, one_of, sort}
 use Rattle.std.proofs.Common.{[], ◌∷◌}
 use Rattle.fx_parse.proofs.Sorts.{not_plain}
-use Rattle.fx_parse.proofs.tests_of_items.is_plain.Goals as goal
+use Rattle.fx_parse.proofs.predicates.is_plain.Goals as goal
 
 pub returns-in-Plain : goal.returns-in-Plain
 unfolding one_of
