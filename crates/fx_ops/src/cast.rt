@@ -9,7 +9,7 @@ ghost use Rattle.fx_ops.specs.declared.fault.OpFault.TheVariants as fault;
 ghost use Rattle.fx_ops.specs.Convert.{is_convertible, Converts, IsIntText, Reads, IsToInt, IsToTime, to_bool, to_text, bool_text, flag, named_flag};
 
 use crate::fault::OpFault;
-use crate::joined::kept;
+use crate::limit::kept;
 use fx_base::{FaultKind, Text};
 use fx_time::{print_time, read_time};
 use fx_value::{Kind, Scalar};

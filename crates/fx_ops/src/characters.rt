@@ -8,7 +8,7 @@ ghost use Rattle.fx_ops.specs.declared.fault.OpFault.TheVariants.{Memory};
 
 use crate::arguments::{int_at, text_at};
 use crate::fault::OpFault;
-use crate::joined::limited;
+use crate::limit::limited;
 use fx_base::FaultKind;
 use fx_value::Scalar;
 use std::alloc::Global;

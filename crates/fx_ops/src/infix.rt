@@ -8,9 +8,9 @@ ghost use Rattle.fx_ops.specs.declared.operator.BinaryOp.TheVariants.{Add};
 ghost use Rattle.fx_ops.specs.declared.work.Work.TheVariants.{Join};
 
 use crate::fault::OpFault;
-use crate::joined::joined;
 use crate::operand::{number, text};
 use crate::operator::BinaryOp;
+use crate::row::joined;
 use crate::whole::{minus, over, plus, rest, times};
 use crate::work::{Work, work_of};
 use fx_value::{Scalar, scalar_order};

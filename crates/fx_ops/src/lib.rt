@@ -9,7 +9,7 @@ mod dates;
 mod fault;
 mod function;
 mod infix;
-mod joined;
+mod limit;
 mod operand;
 mod operator;
 mod parts;

@@ -1,16 +1,19 @@
 ghost use Rattle.std.specs.Prelude.{◌≡◌, ◌<◌, length, map, IfOk};
+ghost use Rattle.std.specs.List.{join_by};
 ghost use Rattle.fx_ops.specs.Answer.{Gives};
 ghost use Rattle.fx_ops.specs.Parts.{parts, parts_past, all_limited};
 
 use crate::fault::OpFault;
-use crate::joined::MOST;
+use crate::limit::MOST;
 use fx_base::{FaultKind, List, Memory, Text};
 use std::alloc::Global;
 
 /// The parts of a text between the separators from the left, one part where the separator is
-/// empty; TooLarge where a part has more than 1,048,576 bytes.
+/// empty; TooLarge where a part has more than 1,048,576 bytes. The parts with the separator
+/// between them are the text again.
 pub fn split_text(alloc: Global, a: &Text, by: &Text) -> Result<List<Text>, OpFault>
-    ensures { Gives (all_limited (parts by.now a.now)) result }
+    ensures answer { Gives (all_limited (parts by.now a.now)) result }
+    ensures whole { IfOk result (λ found. join_by (λ part. part) by.now found ≡ a.now) }
 {
     let parts = parts(alloc, a.as_str(), by.as_str())?;
     texts_of(alloc, parts.as_slice())

@@ -1,4 +1,4 @@
-//! Texts that are put together of others. A text that is too long is not finished.
+//! Texts that are put together of others. One that would be too long is left before it is.
 ghost use Rattle.std.specs.Prelude.{◌≡◌, ◌<◌, ◌++◌, length, OnOk, IsErrOf};
 ghost use Rattle.std.specs.List.{flat_map, join_by, repeat};
 ghost use Rattle.std.specs.String.{string_bytes};
@@ -9,7 +9,7 @@ ghost use Rattle.fx_ops.specs.Binary.{limited};
 ghost use Rattle.fx_ops.specs.declared.fault.OpFault.TheVariants.{Kind};
 
 use crate::fault::OpFault;
-use crate::joined::{MOST, limited};
+use crate::limit::{MOST, limited};
 use fx_base::FaultKind;
 use fx_value::Scalar;
 use std::alloc::Global;
@@ -33,6 +33,15 @@ fn add_both(text: &mut String, first: &str, second: &str) -> Result<(), OpFault>
 {
     add(text, first)?;
     add(text, second)
+}
+
+/// One text behind another.
+pub fn joined(alloc: Global, first: &str, second: &str) -> Result<Scalar, OpFault>
+    ensures { Gives (limited (first.now ++ second.now)) result }
+{
+    let mut row = String::new(alloc);
+    add_both(&mut row, first, second)?;
+    limited(alloc, row.as_str())
 }
 
 /// The texts in a row with another between them.

@@ -1,3 +1,6 @@
+mod calls;
+mod python;
+
 use crate::{BinaryOp, OpFault, binary, convert, negate};
 use fx_base::{Memory, Text};
 use fx_value::{Kind, Scalar};

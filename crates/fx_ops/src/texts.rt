@@ -10,7 +10,7 @@ ghost use Rattle.fx_ops.specs.declared.fault.OpFault.TheVariants.{Memory};
 
 use crate::arguments::{int_at, text_at, texts_in};
 use crate::fault::OpFault;
-use crate::joined::{kept, limited};
+use crate::limit::{kept, limited};
 use crate::parts::parts;
 use crate::row::{copies, in_a_row};
 use fx_base::{FaultKind, Text};
@@ -110,13 +110,16 @@ pub fn replace_all(alloc: Global, args: &[Scalar]) -> Result<Scalar, OpFault>
     let Some(new) = text_at(args, 2) else {
         return Ok(Scalar::Null);
     };
-    replaced(alloc, text.as_str(), old.as_str(), new.as_str())
+    replaced(alloc, text, old.as_str(), new.as_str())
 }
 
-fn replaced(alloc: Global, text: &str, old: &str, new: &str) -> Result<Scalar, OpFault>
+fn replaced(alloc: Global, text: &Text, old: &str, new: &str) -> Result<Scalar, OpFault>
     ensures { Gives (limited (replaced text.now old.now new.now)) result }
 {
-    let parts = parts(alloc, text, old)?;
+    let parts = parts(alloc, text.as_str(), old)?;
+    if parts.len() == 1 {
+        return kept(text);
+    }
     in_a_row(alloc, parts.as_slice(), new)
 }
 

@@ -1,4 +1,3 @@
-ghost use Rattle.std.specs.Prelude.{◌++◌};
 ghost use Rattle.fx_ops.specs.Answer.{Gives};
 ghost use Rattle.fx_ops.specs.Binary.{limited};
 
@@ -18,16 +17,6 @@ pub fn limited(alloc: Global, text: &str) -> Result<Scalar, OpFault>
         return Err(OpFault::Kind(FaultKind::TooLarge));
     }
     Ok(Scalar::Text(Text::of(alloc, text)?))
-}
-
-/// One text after the other.
-pub fn joined(alloc: Global, first: &str, second: &str) -> Result<Scalar, OpFault>
-    ensures { Gives (limited (first.now ++ second.now)) result }
-{
-    let mut text = String::new(alloc);
-    text.push_str(first)?;
-    text.push_str(second)?;
-    limited(alloc, text.as_str())
 }
 
 /// The text itself, or TooLarge.
