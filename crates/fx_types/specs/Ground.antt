@@ -49,7 +49,7 @@ HasDefault r d = (ls : List Label) × ((l : Label) → listed l ls ≡ false →
 
 -- rows have a plain default, a stream's row has nothing but plain fields, and a function has
 -- finitely many labels
-mutual
+abbrev mutual
   pub IsWellFormed : Ground → Type 0
   IsWellFormed (g_array t) = IsWellFormed t
   IsWellFormed (g_fun r p t) = HasDefault r g_absent × ((l : Label) → IsWellFormedField (r l)) × IsWellFormedField p × IsWellFormed t

@@ -55,23 +55,37 @@ fn copy_ty(alloc: Global, ty: &Ty) -> Result<Ty, Memory>
         Ty::Pattern => Ok(Ty::Pattern),
         Ty::Done => Ok(Ty::Done),
         Ty::Var(number) => Ok(Ty::Var(*number)),
-        Ty::Array(element) => {
-            let copy = copy_ty(alloc, element.get())?;
-            Ok(Ty::Array(Boxed::new(alloc, copy)?))
-        }
-        Ty::Fun(fun) => {
-            let copy = copy_fun(alloc, fun.get())?;
-            Ok(Ty::Fun(Boxed::new(alloc, copy)?))
-        }
-        Ty::Rec(row) => {
-            let copy = copy_row(alloc, row.get())?;
-            Ok(Ty::Rec(Boxed::new(alloc, copy)?))
-        }
-        Ty::Stream(row) => {
-            let copy = copy_row(alloc, row.get())?;
-            Ok(Ty::Stream(Boxed::new(alloc, copy)?))
-        }
+        Ty::Array(element) => Ok(Ty::Array(copy_element(alloc, element)?)),
+        Ty::Fun(fun) => Ok(Ty::Fun(copy_boxed_fun(alloc, fun)?)),
+        Ty::Rec(row) => Ok(Ty::Rec(copy_boxed_row(alloc, row)?)),
+        Ty::Stream(row) => Ok(Ty::Stream(copy_boxed_row(alloc, row)?)),
     }
+}
+
+// Each level of a term takes the stack of one of these and no more: so deep terms have room.
+
+#[cycle(copy)]
+fn copy_element(alloc: Global, element: &Boxed<Ty>) -> Result<Boxed<Ty>, Memory>
+    ensures { IfOk result (λ t. t ≡ element.now) }
+{
+    let copy = copy_ty(alloc, element.get())?;
+    Boxed::new(alloc, copy)
+}
+
+#[cycle(copy)]
+fn copy_boxed_fun(alloc: Global, fun: &Boxed<FunTy>) -> Result<Boxed<FunTy>, Memory>
+    ensures { IfOk result (λ f. f ≡ fun.now) }
+{
+    let copy = copy_fun(alloc, fun.get())?;
+    Boxed::new(alloc, copy)
+}
+
+#[cycle(copy)]
+fn copy_boxed_row(alloc: Global, row: &Boxed<RowTy>) -> Result<Boxed<RowTy>, Memory>
+    ensures { IfOk result (λ r. r ≡ row.now) }
+{
+    let copy = copy_row(alloc, row.get())?;
+    Boxed::new(alloc, copy)
 }
 
 #[cycle(copy)]

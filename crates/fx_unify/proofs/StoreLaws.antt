@@ -28,10 +28,10 @@ pub on_ok : {A E P Q : Type 0} (r : Result A E) → (P → Q) → OnOk r P → O
 on_ok (Ok x) f p = f p
 on_ok (Err e) f p = p
 
-some_is : {A : Type 0} (x y : A) → Some x ≡ Some y → x ≡ y
+pub some_is : {A : Type 0} (x y : A) → Some x ≡ Some y → x ≡ y
 some_is x y e = ap (λ o. unwrap_or o x) e
 
-none_some : {A B : Type 0} (x : A) (o : Option A) → o ≡ None → o ≡ Some x → B
+pub none_some : {A B : Type 0} (x : A) (o : Option A) → o ≡ None → o ≡ Some x → B
 none_some x o e f = absurd (true≢false (ap is_some (sym f ∙ e)))
 
 -- one variable gets an entry, and the others keep theirs

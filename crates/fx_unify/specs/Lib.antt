@@ -1,5 +1,14 @@
+pub mod Bounds
+pub mod Decide
+pub mod Judge
+pub mod Least
+pub mod Measure
+pub mod Numbers
 pub mod Part
 pub mod Rows
+pub mod Solutions
+pub mod Sorts
 pub mod Store
+pub mod Sums
 pub mod Tag
 pub mod Work

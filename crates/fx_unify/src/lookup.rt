@@ -1,6 +1,6 @@
 //! What a variable is bound to.
 
-ghost use Rattle.std.specs.Prelude.{◌≡◌, IfOk, None, option_map, slice_index_or};
+ghost use Rattle.std.specs.Prelude.{◌≡◌, IfOk, MatchOption, None, Some, option_map, slice_index_or};
 ghost use Rattle.fx_types.specs.Shape.{term};
 ghost use Rattle.fx_unify.specs.Part.{part, p_is};
 ghost use Rattle.fx_unify.specs.Store.{entry, root_at, slot_in, bound_to};
@@ -43,6 +43,17 @@ impl Store {
         }
         root_field_at(alloc, self.rests.as_slice(), row, label)
     }
+}
+
+/// What is bound at this number.
+pub(crate) fn slot_at(items: &[Option<Field>], number: u32) -> Option<&Field>
+    ensures { MatchOption result (slice_index_or items.now number None ≡ None) (λ f. slice_index_or items.now number None ≡ Some f.now) }
+{
+    let at = number as usize;
+    if at < items.len() {
+        return items[at].as_ref();
+    }
+    None
 }
 
 fn field_at(alloc: Global, items: &[Option<Field>], number: u32) -> Result<Option<Field>, Memory>

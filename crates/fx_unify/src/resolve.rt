@@ -3,6 +3,7 @@ ghost use Rattle.fx_types.specs.Instance.{Solution, ground_tail};
 ghost use Rattle.fx_types.specs.Shape.{rest_term};
 ghost use Rattle.fx_types.specs.Term.{Label};
 ghost use Rattle.std.specs.Prelude.{false};
+ghost use Rattle.fx_unify.specs.Least.{Leads, RestLeads, RowLeads};
 ghost use Rattle.fx_unify.specs.Part.{part, value, Solved};
 ghost use Rattle.fx_unify.specs.Store.{entry, bound_to, root_at, known, IsFree};
 
@@ -19,6 +20,7 @@ impl Store {
     /// Follows bound variables up to a field that is none.
     pub(crate) fn resolve(&self, alloc: Global, field: Field) -> Result<Field, Memory>
         ensures same { IfOk result (λ f. (s : Solution) → Solved s (entry self.now) → value s (part f) ≡ value s (part field)) }
+        ensures leads { IfOk result (λ f. Leads (entry self.now) (part field) (part f)) }
         ensures free { IfOk result (λ f. bound_to (entry self.now) (part f) ≡ None) }
     {
         let mut current = field;
@@ -35,6 +37,7 @@ impl Store {
     pub(crate) fn root(&self, alloc: Global, rest: &Rest) -> Result<Root, Memory>
         ensures same { IfOk result (λ r. (s : Solution) → Solved s (entry self.now) → (l : Label) → known l self.now.columns.items ≡ false
             → value s (root_at l r) ≡ ground_tail s (rest_term rest.now) l) }
+        ensures leads { IfOk result (λ r. RestLeads self.now (rest_term rest.now) r) }
         ensures free { IfOk result (λ r. IsFree self.now.rests.items r) }
     {
         match rest {
@@ -43,9 +46,10 @@ impl Store {
         }
     }
 
-    fn root_of(&self, alloc: Global, row: u32) -> Result<Root, Memory>
+    pub(crate) fn root_of(&self, alloc: Global, row: u32) -> Result<Root, Memory>
         ensures same { IfOk result (λ r. (s : Solution) → Solved s (entry self.now) → (l : Label) → known l self.now.columns.items ≡ false
             → value s (root_at l r) ≡ s.row_of row l) }
+        ensures leads { IfOk result (λ r. RowLeads self.now row r) }
         ensures free { IfOk result (λ r. IsFree self.now.rests.items r) }
     {
         let mut current = row;

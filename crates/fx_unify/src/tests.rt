@@ -1,31 +1,29 @@
 //! Pairs of terms, and whether their equations leave a solution.
-use crate::UnifyFault;
-use crate::field::Field;
-use crate::store::Store;
-use crate::work::put_off;
+use crate::{Bindings, UnifyFault, unify};
 use fx_base::{Boxed, List, Memory, Text};
 use fx_types::{FieldTy, FunTy, LabelField, LabelTy, Rest, RowTy, Ty};
 use std::alloc::Global;
 use std::test::Fail;
 
-fn store(alloc: Global) -> Store {
-    Store {
-        types: Vec::new(alloc),
-        fields: Vec::new(alloc),
-        columns: Vec::new(alloc),
-        rests: Vec::new(alloc),
-        work: Vec::new(alloc),
+/// The bindings under which the two are equal; None where there are none.
+fn made_equal(
+    alloc: Global,
+    bindings: Bindings,
+    a: &Ty,
+    b: &Ty,
+) -> Result<Option<Bindings>, Memory> {
+    match unify(alloc, bindings, a, b) {
+        Ok(bindings) => Ok(Some(bindings)),
+        Err(UnifyFault::Clash) => Ok(None),
+        Err(UnifyFault::Memory) => Err(Memory),
     }
 }
 
-/// Solves all that the equation asks; true where it could.
-fn solves(alloc: Global, store: &mut Store, a: Ty, b: Ty) -> Result<bool, Memory> {
-    put_off(&mut store.work, Field::Is(a), Field::Is(b))?;
-    match store.run(alloc) {
-        Ok(()) => Ok(true),
-        Err(UnifyFault::Clash) => Ok(false),
-        Err(UnifyFault::Memory) => Err(Memory),
-    }
+/// Whether the two can be equal.
+fn can_be_equal(alloc: Global, a: &Ty, b: &Ty) -> Result<bool, Memory> {
+    let bindings = Bindings::empty(alloc)?;
+    let answer = made_equal(alloc, bindings, a, b)?;
+    Ok(answer.is_some())
 }
 
 fn array(alloc: Global, element: Ty) -> Result<Ty, Memory> {
@@ -69,19 +67,32 @@ fn function(alloc: Global, labels: Vec<(&str, Ty)>, pipe: Option<Ty>) -> Result<
 #[test]
 fn rows_that_hide_a_label_may_differ_there(rt: HostRuntime) -> Result<(), Fail> {
     let alloc = rt.alloc();
-    let mut store = store(alloc);
+    let bindings = Bindings::empty(alloc)?;
     let a = record(alloc, vec![in alloc; ("a", Ty::Int)]?, Rest::Var(0))?;
     let b = record(alloc, vec![in alloc; ("a", Ty::Int)]?, Rest::Var(1))?;
-    assert!(rt; solves(alloc, &mut store, a, b)?);
+    let bindings = made_equal(alloc, bindings, &a, &b)?.expect(&rt, "the rest is one");
+    let hidden = record(alloc, Vec::new(alloc), Rest::Var(0))?;
+    let other = record(alloc, Vec::new(alloc), Rest::Var(1))?;
     let zero = record(alloc, vec![in alloc; ("a", Ty::Bool)]?, Rest::Var(2))?;
     let one = record(alloc, vec![in alloc; ("a", Ty::Text)]?, Rest::Var(3))?;
-    let hidden = record(alloc, Vec::new(alloc), Rest::Var(0))?;
-    let other = record(alloc, Vec::new(alloc), Rest::Var(1))?;
-    assert!(rt; solves(alloc, &mut store, hidden, zero)?);
-    assert!(rt; solves(alloc, &mut store, other, one)?);
-    let hidden = record(alloc, Vec::new(alloc), Rest::Var(0))?;
-    let other = record(alloc, Vec::new(alloc), Rest::Var(1))?;
-    assert!(rt; !solves(alloc, &mut store, hidden, other)?);
+    let bindings = made_equal(alloc, bindings, &hidden, &zero)?.expect(&rt, "a Boolean");
+    let bindings = made_equal(alloc, bindings, &other, &one)?.expect(&rt, "a text");
+    assert!(rt; made_equal(alloc, bindings, &hidden, &other)?.is_none());
+    Ok(())
+}
+
+#[test]
+fn no_type_stands_inside_itself(rt: HostRuntime) -> Result<(), Fail> {
+    let alloc = rt.alloc();
+    let inner = array(alloc, Ty::Var(0))?;
+    assert!(rt; !can_be_equal(alloc, &Ty::Var(0), &inner)?);
+    // the same through a row, and through two variables
+    let bindings = Bindings::empty(alloc)?;
+    let first = record(alloc, vec![in alloc; ("a", Ty::Var(1))]?, Rest::Var(2))?;
+    let second = array(alloc, record(alloc, Vec::new(alloc), Rest::Var(3))?)?;
+    let row = record(alloc, Vec::new(alloc), Rest::Var(3))?;
+    let bindings = made_equal(alloc, bindings, &first, &row)?.expect(&rt, "a row");
+    assert!(rt; made_equal(alloc, bindings, &Ty::Var(1), &second)?.is_none());
     Ok(())
 }
 
@@ -138,24 +149,46 @@ fn a_table_of_pairs(rt: HostRuntime) -> Result<(), Fail> {
         (Ty::Stream(Boxed::new(alloc, streamed)?), recorded, false),
     ]?;
     for (i, (a, b, expected)) in pairs.into_iter().enumerate() {
-        let mut store = store(alloc);
-        let solved = solves(alloc, &mut store, a, b)?;
+        let solved = can_be_equal(alloc, &a, &b)?;
         assert_eq!(rt; solved, expected, "pair {i}");
     }
+    Ok(())
+}
+
+/// So many arrays, one in the other.
+fn nested(alloc: Global, levels: u32) -> Result<Ty, Memory> {
+    let mut ty = Ty::Int;
+    for _level in 0..levels {
+        ty = array(alloc, ty)?;
+    }
+    Ok(ty)
+}
+
+#[test]
+fn types_have_at_most_4096_nodes(rt: HostRuntime) -> Result<(), Fail> {
+    let alloc = rt.alloc();
+    let most = nested(alloc, 4095)?;
+    assert!(rt; can_be_equal(alloc, &Ty::Var(0), &most)?);
+    let more = nested(alloc, 4096)?;
+    assert!(rt; !can_be_equal(alloc, &Ty::Var(0), &more)?);
+    // what is already bound counts too
+    let bindings = Bindings::empty(alloc)?;
+    let half = nested(alloc, 2048)?;
+    let bindings = made_equal(alloc, bindings, &Ty::Var(0), &half)?.expect(&rt, "half of it");
+    let mut outer = Ty::Var(0);
+    for _level in 0..2048 {
+        outer = array(alloc, outer)?;
+    }
+    assert!(rt; made_equal(alloc, bindings, &Ty::Var(1), &outer)?.is_none());
     Ok(())
 }
 
 #[test]
 fn deep_terms_and_wide_rows(rt: HostRuntime) -> Result<(), Fail> {
     let alloc = rt.alloc();
-    let mut deep = Ty::Int;
-    for _level in 0..1000 {
-        deep = array(alloc, deep)?;
-    }
+    let deep = nested(alloc, 4000)?;
     let copy = deep.copy(alloc)?;
-    let mut store = store(alloc);
-    assert!(rt; solves(alloc, &mut store, Ty::Var(0), deep)?);
-    assert!(rt; solves(alloc, &mut store, Ty::Var(0), copy)?);
+    assert!(rt; can_be_equal(alloc, &deep, &copy)?);
     let mut fields = List::empty(alloc);
     for n in 0..300_u32 {
         let name = format!(in alloc; "column{n}")?;
@@ -167,6 +200,6 @@ fn deep_terms_and_wide_rows(rt: HostRuntime) -> Result<(), Fail> {
     let rest = Rest::Var(0);
     let wide = Ty::Rec(Boxed::new(alloc, RowTy { fields, rest })?);
     let copy = wide.copy(alloc)?;
-    assert!(rt; solves(alloc, &mut store, wide, copy)?);
+    assert!(rt; can_be_equal(alloc, &wide, &copy)?);
     Ok(())
 }

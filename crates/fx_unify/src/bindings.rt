@@ -1,0 +1,125 @@
+//! Bindings of variables, and the calls that make them.
+
+ghost use Rattle.std.specs.Prelude.{◌≡◌, ◌↔◌, max, IfOk};
+ghost use Rattle.fx_types.specs.Instance.{Solution, ground};
+ghost use Rattle.fx_types.specs.Shape.{term};
+ghost use Rattle.fx_unify.specs.Numbers as Numbers;
+ghost use Rattle.fx_unify.specs.Solutions.{Solves, HasLeast, IsUnrestricted, next_of};
+ghost use Rattle.fx_unify.specs.Judge.{Judging};
+ghost use Rattle.fx_unify.specs.Work.{Within, Refuses};
+
+use crate::bounds::Bound;
+use crate::fault::UnifyFault;
+use crate::field::Field;
+use crate::numbers::numbers;
+use crate::store::Store;
+use crate::work::put_off;
+use fx_base::Memory;
+use fx_types::Ty;
+use std::alloc::Global;
+
+/// Which types, fields and rows variables stand for, as far as it is known.
+#[derive(Debug, Drop)]
+pub struct Bindings {
+    pub(crate) store: Store,
+    pub(crate) bounds: Vec<Bound>,
+    // terms that are types
+    pub(crate) also: Vec<Ty>,
+    // more than each number that is used
+    pub(crate) next: u64,
+}
+
+impl Bindings {
+    /// Bindings of nothing: every solution is one of them.
+    pub fn empty(alloc: Global) -> Result<Bindings, Memory>
+        ensures all { IfOk result (λ r. (s : Solution) → Solves s r) }
+        ensures least { IfOk result HasLeast }
+        ensures next { IfOk result (λ r. next_of r ≡ 0) }
+    {
+        Ok(Bindings {
+            store: Store {
+                types: Vec::new(alloc),
+                fields: Vec::new(alloc),
+                columns: Vec::new(alloc),
+                rests: Vec::new(alloc),
+                work: Vec::new(alloc),
+            },
+            bounds: Vec::new(alloc),
+            also: Vec::new(alloc),
+            next: 0,
+        })
+    }
+}
+
+/// Bindings under which the two types are equal, and nothing else is asked than before. Clash where
+/// no old solution within 4,096 nodes makes them so. A refusal spends the bindings.
+pub fn unify(alloc: Global, bindings: Bindings, a: &Ty, b: &Ty) -> Result<Bindings, UnifyFault>
+    ensures ok { IfOk result (λ r. (s : Solution) → Solves s r ↔ (Solves s bindings × (ground s (term a.now) ≡ ground s (term b.now)))) }
+    ensures least { IfOk result HasLeast }
+    ensures next { IfOk result (λ r. next_of r ≡ max (next_of bindings) (max (Numbers.numbers (term a.now)) (Numbers.numbers (term b.now)))) }
+    ensures free { IfOk result (λ r. IsUnrestricted bindings → IsUnrestricted r) }
+    ensures clash { Refuses result ((s : Solution) → Solves s bindings → Within s → ground s (term a.now) ≡ ground s (term b.now) → ⊥) }
+{
+    let left = a.copy(alloc)?;
+    let right = b.copy(alloc)?;
+    let greatest = numbers(a).max(numbers(b));
+    let Bindings {
+        mut store,
+        bounds,
+        also,
+        next,
+    } = bindings;
+    put_off(&mut store.work, Field::Is(left), Field::Is(right))?;
+    settle(
+        alloc,
+        Bindings {
+            store,
+            bounds,
+            also,
+            next: next.max(greatest),
+        },
+    )
+}
+
+/// Solves the equations that are left, and sees that a solution is.
+fn settle(alloc: Global, bindings: Bindings) -> Result<Bindings, UnifyFault>
+    ensures ok { IfOk result (λ r. (s : Solution) → Solves s r ↔ Solves s bindings) }
+    ensures least { IfOk result HasLeast }
+    ensures next { IfOk result (λ r. next_of r ≡ next_of bindings) }
+    ensures clash { Refuses result ((s : Solution) → Solves s bindings → Within s → ⊥) }
+{
+    let Bindings {
+        mut store,
+        bounds,
+        also,
+        next,
+    } = bindings;
+    match store.run(alloc) {
+        Ok(()) => {}
+        Err(fault) => return Err(fault),
+    }
+    match judge(alloc, &store, bounds.as_slice(), also.as_slice()) {
+        Ok(()) => {}
+        Err(fault) => return Err(fault),
+    }
+    Ok(Bindings {
+        store,
+        bounds,
+        also,
+        next,
+    })
+}
+
+fn judge(alloc: Global, store: &Store, bounds: &[Bound], also: &[Ty]) -> Result<(), UnifyFault>
+    ensures { Judging result store.now bounds.now also.now }
+{
+    let sorts = match store.sorts_of(alloc, bounds) {
+        Ok(sorts) => sorts,
+        Err(fault) => return Err(fault),
+    };
+    match store.decide(alloc, sorts.as_slice()) {
+        Ok(()) => {}
+        Err(fault) => return Err(fault),
+    }
+    store.check_terms(alloc, sorts.as_slice(), also)
+}
