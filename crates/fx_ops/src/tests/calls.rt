@@ -7,7 +7,7 @@ use fx_value::Scalar;
 use std::alloc::Global;
 use std::test::Fail;
 
-const OPERATORS: [BinaryOp; 5] = [
+static OPERATORS: [BinaryOp; 5] = [
     BinaryOp::Add,
     BinaryOp::Sub,
     BinaryOp::Mul,
@@ -15,7 +15,7 @@ const OPERATORS: [BinaryOp; 5] = [
     BinaryOp::Rem,
 ];
 
-const FIELDS: [ScalarFn; 9] = [
+static FIELDS: [ScalarFn; 9] = [
     ScalarFn::Year,
     ScalarFn::Month,
     ScalarFn::MonthDay,
@@ -53,10 +53,10 @@ fn moment(alloc: Global, t: i64) -> Result<List<Scalar>, Memory> {
 #[test]
 fn integers_as_python_has_them(rt: HostRuntime) -> Result<(), Fail> {
     let alloc = rt.alloc();
-    for (a, b, wanted) in PAIRS {
+    for (a, b, wanted) in &PAIRS {
         for (which, want) in OPERATORS.iter().zip(wanted) {
-            let answer = on_ints(alloc, *which, a, b);
-            assert_eq!(rt; shown(alloc, answer)?.as_str(), want, "{a} {which:?} {b}");
+            let answer = on_ints(alloc, *which, *a, *b);
+            assert_eq!(rt; shown(alloc, answer)?.as_str(), *want, "{a} {which:?} {b}");
         }
     }
     Ok(())
@@ -65,11 +65,11 @@ fn integers_as_python_has_them(rt: HostRuntime) -> Result<(), Fail> {
 #[test]
 fn texts_as_python_has_them(rt: HostRuntime) -> Result<(), Fail> {
     let alloc = rt.alloc();
-    for (which, texts, numbers, want) in TEXTS {
+    for (which, texts, numbers, want) in &TEXTS {
         let args = arguments(alloc, texts, numbers)?;
-        let answer = scalar_call(alloc, which, &args, NO_SPAN);
+        let answer = scalar_call(alloc, *which, &args, NO_SPAN);
         let got = shown(alloc, answer)?;
-        assert_eq!(rt; got.as_str(), want, "{which:?} {texts:?} {numbers:?}");
+        assert_eq!(rt; got.as_str(), *want, "{which:?} {texts:?} {numbers:?}");
     }
     Ok(())
 }
@@ -80,10 +80,10 @@ fn split(alloc: Global, text: &str, by: &str) -> Result<List<Text>, OpFault> {
 
 #[test]
 fn parts_as_python_has_them(rt: HostRuntime) -> Result<(), Fail> {
-    for (text, by, wanted) in SPLITS {
+    for (text, by, wanted) in &SPLITS {
         let parts = split(rt.alloc(), text, by)?;
         assert_eq!(rt; parts.as_slice().len(), wanted.len(), "{text} by {by}");
-        for (part, want) in parts.as_slice().iter().zip(wanted) {
+        for (part, want) in parts.as_slice().iter().zip(*wanted) {
             assert_eq!(rt; part.as_str(), *want, "{text} by {by}");
         }
     }
@@ -93,8 +93,8 @@ fn parts_as_python_has_them(rt: HostRuntime) -> Result<(), Fail> {
 #[test]
 fn dates_as_python_has_them(rt: HostRuntime) -> Result<(), Fail> {
     let alloc = rt.alloc();
-    for (t, wanted) in TIMES {
-        let args = moment(alloc, t)?;
+    for (t, wanted) in &TIMES {
+        let args = moment(alloc, *t)?;
         for (which, want) in FIELDS.iter().zip(wanted) {
             let answer = scalar_call(alloc, *which, &args, NO_SPAN);
             let want = format!(in alloc; "i {want}")?;
@@ -111,13 +111,17 @@ fn dates_as_python_has_them(rt: HostRuntime) -> Result<(), Fail> {
 #[test]
 fn spans_as_python_has_them(rt: HostRuntime) -> Result<(), Fail> {
     let alloc = rt.alloc();
-    for (which, t, months, nanos, want) in MOVES {
-        let args = moment(alloc, t)?;
-        let answer = scalar_call(alloc, which, &args, Span { months, nanos });
+    for (which, t, months, nanos, want) in &MOVES {
+        let args = moment(alloc, *t)?;
+        let span = Span {
+            months: *months,
+            nanos: *nanos,
+        };
+        let answer = scalar_call(alloc, *which, &args, span);
         let got = shown(alloc, answer)?;
         assert_eq!(rt;
             got.as_str(),
-            want,
+            *want,
             "{which:?} of {t}, {months} and {nanos}"
         );
     }

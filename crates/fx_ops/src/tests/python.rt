@@ -1,7 +1,7 @@
 //! What Python answers, as `cases/operators` writes it.
 use crate::ScalarFn;
 
-pub const PAIRS: [(i64, i64, [&str; 5]); 22] = [
+pub static PAIRS: [(i64, i64, [&str; 5]); 22] = [
     (0, 0, ["i 0", "i 0", "i 0", "DivideByZero", "DivideByZero"]),
     (7, 2, ["i 9", "i 5", "i 14", "i 3", "i 1"]),
     (-7, 2, ["i -5", "i -9", "i -14", "i -3", "i -1"]),
@@ -148,7 +148,7 @@ pub const PAIRS: [(i64, i64, [&str; 5]); 22] = [
     ),
 ];
 
-pub const TEXTS: [(ScalarFn, &[&str], &[i64], &str); 68] = [
+pub static TEXTS: [(ScalarFn, &[&str], &[i64], &str); 68] = [
     (ScalarFn::ContainsStr, &["banana", "nan"], &[], "b true"),
     (ScalarFn::ContainsStr, &["banana", "nab"], &[], "b false"),
     (ScalarFn::ContainsStr, &["ab", "abc"], &[], "b false"),
@@ -224,7 +224,7 @@ pub const TEXTS: [(ScalarFn, &[&str], &[i64], &str); 68] = [
     (ScalarFn::Repeat, &["x"], &[1048577], "TooLarge"),
 ];
 
-pub const SPLITS: [(&str, &str, &[&str]); 11] = [
+pub static SPLITS: [(&str, &str, &[&str]); 11] = [
     ("a,b,,", ",", &["a", "b", "", ""]),
     ("", ",", &[""]),
     (",", ",", &["", ""]),
@@ -238,7 +238,7 @@ pub const SPLITS: [(&str, &str, &[&str]); 11] = [
     ("abab", "ab", &["", "", ""]),
 ];
 
-pub const TIMES: [(i64, [i64; 9]); 16] = [
+pub static TIMES: [(i64, [i64; 9]); 16] = [
     (0, [1970, 1, 1, 1, 4, 0, 0, 0, 0]),
     (-1, [1969, 12, 31, 365, 3, 23, 59, 59, 999999999]),
     (i64::MIN, [1677, 9, 21, 264, 2, 0, 12, 43, 145224192]),
@@ -263,7 +263,7 @@ pub const TIMES: [(i64, [i64; 9]); 16] = [
     (5000000000000000000, [2128, 6, 11, 163, 5, 8, 53, 20, 0]),
 ];
 
-pub const MOVES: [(ScalarFn, i64, i64, i64, &str); 40] = [
+pub static MOVES: [(ScalarFn, i64, i64, i64, &str); 40] = [
     (
         ScalarFn::Truncate,
         -1,
