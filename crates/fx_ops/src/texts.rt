@@ -17,6 +17,7 @@ use fx_base::{FaultKind, Text};
 use fx_value::Scalar;
 use std::alloc::Global;
 
+/// Whether the second text stands in the first.
 pub fn contains_str(args: &[Scalar]) -> Result<Scalar, OpFault>
     ensures answer { Gives (tested (λ text part. occurs part text) args.now) result }
     ensures memory { result ≢ Err Memory }
@@ -30,6 +31,7 @@ pub fn contains_str(args: &[Scalar]) -> Result<Scalar, OpFault>
     Ok(Scalar::Bool(text.as_str().contains(part.as_str())))
 }
 
+/// Whether the first text begins with the second.
 pub fn has_prefix(args: &[Scalar]) -> Result<Scalar, OpFault>
     ensures answer { Gives (tested (λ text front. starts_with nat_eq text front) args.now) result }
     ensures memory { result ≢ Err Memory }
@@ -43,6 +45,7 @@ pub fn has_prefix(args: &[Scalar]) -> Result<Scalar, OpFault>
     Ok(Scalar::Bool(text.as_str().starts_with(front.as_str())))
 }
 
+/// Whether the first text ends with the second.
 pub fn has_suffix(args: &[Scalar]) -> Result<Scalar, OpFault>
     ensures answer { Gives (tested (λ text back. ends_with nat_eq text back) args.now) result }
     ensures memory { result ≢ Err Memory }
@@ -56,6 +59,7 @@ pub fn has_suffix(args: &[Scalar]) -> Result<Scalar, OpFault>
     Ok(Scalar::Bool(text.as_str().ends_with(back.as_str())))
 }
 
+/// The first text without the second at its front, if it is there.
 pub fn trim_prefix(alloc: Global, args: &[Scalar]) -> Result<Scalar, OpFault>
     ensures { Gives (made (λ text front. without_front front text) args.now) result }
 {
@@ -77,6 +81,7 @@ fn without_front(alloc: Global, text: &Text, front: &str) -> Result<Scalar, OpFa
     }
 }
 
+/// The first text without the second at its end, if it is there.
 pub fn trim_suffix(alloc: Global, args: &[Scalar]) -> Result<Scalar, OpFault>
     ensures { Gives (made (λ text back. without_back back text) args.now) result }
 {
@@ -98,6 +103,7 @@ fn without_back(alloc: Global, text: &Text, back: &str) -> Result<Scalar, OpFaul
     }
 }
 
+/// The first text with the third in place of each second one, from the left.
 pub fn replace_all(alloc: Global, args: &[Scalar]) -> Result<Scalar, OpFault>
     ensures { Gives (replaced_in args.now) result }
 {
@@ -123,6 +129,7 @@ fn replaced(alloc: Global, text: &Text, old: &str, new: &str) -> Result<Scalar, 
     in_a_row(alloc, parts.as_slice(), new)
 }
 
+/// The texts behind the first with the first between them.
 pub fn join_str(alloc: Global, args: &[Scalar]) -> Result<Scalar, OpFault>
     ensures { Gives (joined_in args.now) result }
 {
@@ -141,6 +148,7 @@ fn joined(alloc: Global, texts: &[&str]) -> Result<Scalar, OpFault>
     }
 }
 
+/// So many copies of the text, or IndexRange for a negative number.
 pub fn repeat(alloc: Global, args: &[Scalar]) -> Result<Scalar, OpFault>
     ensures { Gives (repeated_in args.now) result }
 {
