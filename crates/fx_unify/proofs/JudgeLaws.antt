@@ -1,5 +1,5 @@
 -- Whether a solution is left, put together.
-use Rattle.std.proofs.Common.{◌≡◌, ◌↔◌, refl, sym, ap, subst, ◌∙◌, ℕ, zero, suc, ◌+◌, ◌<◌, ◌≤◌, max, List, [], ◌∷◌, ◌++◌, take, get_or, length, Option, None, option_map, Result, Ok, Err, IfOk, arith}
+use Rattle.std.proofs.Common.{◌≡◌, ◌↔◌, refl, sym, ap, subst, ◌∙◌, ℕ, zero, suc, ◌+◌, ◌<◌, ◌≤◌, max, true, List, [], ◌∷◌, ◌++◌, take, get_or, length, Option, None, option_map, Result, Ok, Err, IfOk, arith}
 use Rattle.std.proofs.lemmas.List.{take_more}
 use Rattle.fx_types.specs.declared.term.Ty.{Ty}
 use Rattle.fx_types.specs.Ground.{Ground, GroundField, g_absent, g_is}
@@ -20,6 +20,7 @@ use Rattle.fx_unify.specs.Measure.{least, Admits, Measuring}
 use Rattle.fx_unify.specs.Numbers.{numbers}
 use Rattle.fx_unify.specs.Part.{Variable, type_node, field_node, slot_node, p_is, part, Solved}
 use Rattle.fx_unify.specs.Solutions.{Solves, HasLeast, IsUnrestricted, Agree}
+use Rattle.fx_unify.specs.Sorts.{allows}
 use Rattle.fx_unify.specs.Store.{entry, slot_in, root_at}
 use Rattle.fx_unify.specs.Work.{Hold, Holds, Within, Told, Refuses, IsField, Solving, nothing_more}
 use Rattle.fx_unify.proofs.AgreeLaws.{agree_less, agree_term}
@@ -165,3 +166,60 @@ unrestricted old new a b x y m n left right most whole next h free s q agree sol
     let first : ground s (term a) ≡ ground q (term a) = agree_term new.next s q agree (term a) (omega arith) in
     let second : ground s (term b) ≡ ground q (term b) = agree_term new.next s q agree (term b) (omega arith) in
     (h q).1 (free s q (agree_less new.next old.next s q agree (omega arith)) before.0, sym first ∙ before.1 ∙ second)
+
+-- whatever is asked more
+
+module _ (old mid : declared.Bindings) (E : Solution → Type 0) (more : (s : Solution) → Solves s mid ↔ (Solves s old × E s)) where
+  pub asked_more : (new : declared.Bindings) → ((s : Solution) → Solves s new ↔ Solves s mid) → (s : Solution) → Solves s new ↔ (Solves s old × E s)
+  asked_more new h s = (λ k. (more s).0 ((h s).0 k), λ k. (h s).1 ((more s).1 k))
+
+  pub refused_more : {A : Type 0} (r : Result A UnifyFault) → Refuses r ((s : Solution) → Solves s mid → Within s → ⊥) → Refuses r ((s : Solution) → Solves s old → Within s → E s → ⊥)
+  refused_more (Ok v) h = tt
+  refused_more (Err fault.Clash) h = λ s solves within e. h s ((more s).1 (solves, e)) within
+  refused_more (Err fault.Memory) h = tt
+
+  pub free_more : (new : declared.Bindings) (m n : ℕ) → n ≡ max old.next m → new.next ≡ n → ((s q : Solution) → Agree m s q → E s → E q)
+      → ((s : Solution) → Solves s new ↔ Solves s mid) → IsUnrestricted old → IsUnrestricted new
+  free_more new m n is next same h free s q agree solves =
+      let before : Solves s old × E s = (more s).0 ((h s).0 solves) in
+      (h q).1 ((more q).1 (free s q (agree_less new.next old.next s q agree (omega arith)) before.0, same s q (agree_less new.next m s q agree (omega arith)) before.1))
+
+types_last : (s : Solution) (ts : List Ty) (t : Ty) → AreTypes s (ts ++ t ∷ []) ↔ (AreTypes s ts × IsType (ground s (term t)))
+types_last s [] t = (λ h. (tt, h.0), λ h. (h.1, tt))
+types_last s (u ∷ ts) t =
+    let h : AreTypes s (ts ++ t ∷ []) ↔ (AreTypes s ts × IsType (ground s (term t))) = types_last s ts t in
+    (λ k. ((k.0, (h.0 k.1).0), (h.0 k.1).1), λ k. (k.0.0, h.1 (k.0.1, k.1)))
+
+pub asked_type : (old mid : declared.Bindings) (t x : Ty) → x ≡ t → mid.store ≡ old.store → mid.bounds ≡ old.bounds → mid.also.items ≡ old.also.items ++ x ∷ []
+    → (s : Solution) → Solves s mid ↔ (Solves s old × IsType (ground s (term t)))
+asked_type old mid t x same store bounds also s =
+    let last : AreTypes s (old.also.items ++ x ∷ []) ↔ (AreTypes s old.also.items × IsType (ground s (term x))) = types_last s old.also.items x in (
+      λ h. (let both : AreTypes s old.also.items × IsType (ground s (term x)) = last.0 (subst (AreTypes s) also h.2) in
+          ((subst (Holds s) store h.0, subst (λ v. Keeps s v.items) bounds h.1, both.0), subst (λ u. IsType (ground s (term u))) same both.1)),
+      λ h. (
+        subst (Holds s) (sym store) h.0.0,
+        subst (λ v. Keeps s v.items) (sym bounds) h.0.1,
+        subst (AreTypes s) (sym also) (last.1 (h.0.2, subst (λ u. IsType (ground s (term u))) (sym same) h.1)),
+      ),
+    )
+
+keeps_more : (s : Solution) (bs : List bounds.Bound) (b : bounds.Bound) → Keeps s (bs ++ b ∷ []) ↔ (Keeps s bs × (allows b.sorts (s.type_of b.var) ≡ true))
+keeps_more s [] b = (λ h. (tt, h.0), λ h. (h.1, tt))
+keeps_more s (c ∷ bs) b =
+    let h : Keeps s (bs ++ b ∷ []) ↔ (Keeps s bs × (allows b.sorts (s.type_of b.var) ≡ true)) = keeps_more s bs b in
+    (λ k. ((k.0, (h.0 k.1).0), (h.0 k.1).1), λ k. (k.0.0, h.1 (k.0.1, k.1)))
+
+pub asked_bound : (old mid : declared.Bindings) (b : bounds.Bound) (P : Ground → Type 0) → ((g : Ground) → (allows b.sorts g ≡ true) ↔ P g) → mid.store ≡ old.store → mid.also ≡ old.also
+    → mid.bounds.items ≡ old.bounds.items ++ b ∷ [] → (s : Solution) → Solves s mid ↔ (Solves s old × P (s.type_of b.var))
+asked_bound old mid b P means store also bounds s =
+    let last : Keeps s (old.bounds.items ++ b ∷ []) ↔ (Keeps s old.bounds.items × (allows b.sorts (s.type_of b.var) ≡ true)) = keeps_more s old.bounds.items b in (
+      λ h. (let both : Keeps s old.bounds.items × (allows b.sorts (s.type_of b.var) ≡ true) = last.0 (subst (Keeps s) bounds h.1) in
+          ((subst (Holds s) store h.0, both.0, subst (λ v. AreTypes s v.items) also h.2), (means (s.type_of b.var)).0 both.1)),
+      λ h. (subst (Holds s) (sym store) h.0.0, subst (Keeps s) (sym bounds) (last.1 (h.0.1, (means (s.type_of b.var)).1 h.1)), subst (λ v. AreTypes s v.items) (sym also) h.0.2),
+    )
+
+pub type_agrees : (t : Ty) (s q : Solution) → Agree (numbers (term t)) s q → IsType (ground s (term t)) → IsType (ground q (term t))
+type_agrees t s q agree h = subst IsType (agree_term (numbers (term t)) s q agree (term t) (omega arith)) h
+
+pub var_agrees : (n : ℕ) (P : Ground → Type 0) (s q : Solution) → Agree (n + 1) s q → P (s.type_of n) → P (q.type_of n)
+var_agrees n P s q agree h = subst P (agree n (omega arith)).0 h

@@ -6,6 +6,7 @@ pub mod DecideLaws
 pub mod HeadLaws
 pub mod JoinLaws
 pub mod JudgeLaws
+pub mod KindLaws
 pub mod LeastLaws
 pub mod LightLaws
 pub mod MeasureLaws

@@ -1,6 +1,7 @@
 pub mod Bounds
 pub mod Decide
 pub mod Judge
+pub mod Kinds
 pub mod Least
 pub mod Measure
 pub mod Numbers

@@ -1,8 +1,10 @@
 //! Bindings of variables, and the calls that make them.
 
-ghost use Rattle.std.specs.Prelude.{◌≡◌, ◌↔◌, max, IfOk};
+ghost use Rattle.std.specs.Prelude.{◌≡◌, ◌↔◌, ◌≤◌, ◌<◌, ◌+◌, ◌^◌, max, IfOk, MatchOption};
 ghost use Rattle.fx_types.specs.Instance.{Solution, ground};
 ghost use Rattle.fx_types.specs.Shape.{term};
+ghost use Rattle.fx_types.specs.Size.{IsType};
+ghost use Rattle.fx_unify.specs.Kinds.{IsAmong};
 ghost use Rattle.fx_unify.specs.Numbers as Numbers;
 ghost use Rattle.fx_unify.specs.Solutions.{Solves, HasLeast, IsUnrestricted, next_of};
 ghost use Rattle.fx_unify.specs.Judge.{Judging};
@@ -12,11 +14,16 @@ use crate::bounds::Bound;
 use crate::fault::UnifyFault;
 use crate::field::Field;
 use crate::numbers::numbers;
+use crate::sorts::Sorts;
 use crate::store::Store;
 use crate::work::put_off;
-use fx_base::Memory;
+use fx_base::{List, Memory};
 use fx_types::Ty;
+use fx_value::Kind;
 use std::alloc::Global;
+
+/// How many numbers there are.
+const NUMBERS: u64 = 1 << 32;
 
 /// Which types, fields and rows variables stand for, as far as it is known.
 #[derive(Debug, Drop)]
@@ -48,6 +55,82 @@ impl Bindings {
             also: Vec::new(alloc),
             next: 0,
         })
+    }
+
+    /// Bindings under which the type variable is one of the kinds, or a duration where `span` is
+    /// true. Clash where no old solution makes it so. A refusal spends the bindings.
+    pub fn bound(
+        self,
+        alloc: Global,
+        var: u32,
+        kinds: &List<Kind>,
+        span: bool,
+    ) -> Result<Bindings, UnifyFault>
+        ensures ok { IfOk result (λ r. (s : Solution) → Solves s r ↔ (Solves s self × IsAmong kinds.now span (s.type_of var))) }
+        ensures least { IfOk result HasLeast }
+        ensures next { IfOk result (λ r. next_of r ≡ max (next_of self) (var + 1)) }
+        ensures free { IfOk result (λ r. IsUnrestricted self → IsUnrestricted r) }
+        ensures clash { Refuses result ((s : Solution) → Solves s self → Within s → IsAmong kinds.now span (s.type_of var) → ⊥) }
+    {
+        let sorts = Sorts::of(kinds.as_slice(), span);
+        let Bindings {
+            store,
+            mut bounds,
+            also,
+            next,
+        } = self;
+        bounds.push(Bound { var, sorts })?;
+        let next = next.max(var as u64 + 1);
+        settle(
+            alloc,
+            Bindings {
+                store,
+                bounds,
+                also,
+                next,
+            },
+        )
+    }
+
+    /// Bindings under which the term is a type, of at most 4,096 nodes. Clash where no old solution
+    /// makes it one. A refusal spends the bindings.
+    pub fn fits(self, alloc: Global, ty: &Ty) -> Result<Bindings, UnifyFault>
+        ensures ok { IfOk result (λ r. (s : Solution) → Solves s r ↔ (Solves s self × IsType (ground s (term ty.now)))) }
+        ensures least { IfOk result HasLeast }
+        ensures next { IfOk result (λ r. next_of r ≡ max (next_of self) (Numbers.numbers (term ty.now))) }
+        ensures free { IfOk result (λ r. IsUnrestricted self → IsUnrestricted r) }
+        ensures clash { Refuses result ((s : Solution) → Solves s self → Within s → IsType (ground s (term ty.now)) → ⊥) }
+    {
+        let copy = ty.copy(alloc)?;
+        let Bindings {
+            store,
+            bounds,
+            mut also,
+            next,
+        } = self;
+        also.push(copy)?;
+        let next = next.max(numbers(ty));
+        settle(
+            alloc,
+            Bindings {
+                store,
+                bounds,
+                also,
+                next,
+            },
+        )
+    }
+
+    /// The first of so many numbers that nothing is bound to or asked of; None exactly where they
+    /// pass 32 bits.
+    pub fn unused(&self, count: u32) -> Option<u32>
+        requires { 1 ≤ count }
+        ensures { MatchOption result (2 ^ 32 < next_of self.now + count) (λ n. (n ≡ next_of self.now) × (next_of self.now + count ≤ 2 ^ 32)) }
+    {
+        if self.next > NUMBERS - count as u64 {
+            return None;
+        }
+        Some(self.next as u32)
     }
 }
 

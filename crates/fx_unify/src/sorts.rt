@@ -1,12 +1,14 @@
-ghost use Rattle.std.specs.Prelude.{◌≡◌, ◌&&◌, true, false, ℕ, ◌==◌, ◌≤◌, OnOk, if◌then◌else◌};
+ghost use Rattle.std.specs.Prelude.{◌≡◌, ◌&&◌, true, false, ℕ, ◌==◌, ◌≤◌, ◌↔◌, ◌⊎◌, OnOk, if◌then◌else◌};
 ghost use Rattle.fx_types.specs.Ground as Ground;
 ghost use Rattle.fx_types.specs.Instance.{Solution, ground};
 ghost use Rattle.fx_types.specs.Shape.{term};
+ghost use Rattle.fx_unify.specs.Kinds.{of_kind, IsAmong};
 ghost use Rattle.fx_unify.specs.Sorts.{set_at, plainest_of, allows};
 ghost use Rattle.fx_unify.specs.Tag.{tag_of};
 
 use fx_base::Memory;
 use fx_types::Ty;
+use fx_value::Kind;
 
 /// Which types a type variable may have.
 #[derive(Clone, Copy, Debug)]
@@ -21,6 +23,48 @@ pub(crate) struct Sorts {
 }
 
 impl Sorts {
+    /// Those of the kinds, and the duration where `span` is true.
+    pub(crate) fn of(kinds: &[Kind], span: bool) -> Sorts
+        ensures { (g : Ground.Ground) → (allows result g ≡ true) ↔ IsAmong kinds.now span g }
+    {
+        let mut sorts = Sorts {
+            boolean: false,
+            integer: false,
+            text: false,
+            time: false,
+            span,
+            other: false,
+        };
+        for kind in kinds {
+            sorts = sorts.with(*kind);
+        }
+        sorts
+    }
+
+    /// These and one kind more.
+    fn with(&self, kind: Kind) -> Sorts
+        ensures { (g : Ground.Ground) → (allows result g ≡ true) ↔ ((allows self.now g ≡ true) ⊎ (g ≡ of_kind kind)) }
+    {
+        match kind {
+            Kind::Bool => Sorts {
+                boolean: true,
+                ..*self
+            },
+            Kind::Int => Sorts {
+                integer: true,
+                ..*self
+            },
+            Kind::Text => Sorts {
+                text: true,
+                ..*self
+            },
+            Kind::Time => Sorts {
+                time: true,
+                ..*self
+            },
+        }
+    }
+
     /// Whether a kind of columns is among them.
     pub(crate) fn has_column(&self) -> bool
         ensures { result ≡ Ground.is_column (plainest_of self.now) }

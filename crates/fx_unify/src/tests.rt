@@ -64,20 +64,52 @@ fn function(alloc: Global, labels: Vec<(&str, Ty)>, pipe: Option<Ty>) -> Result<
     Ok(Ty::Fun(Boxed::new(alloc, fun)?))
 }
 
+/// A record of one integer over the row of this number.
+fn with_a(alloc: Global, a: Ty, row: u32) -> Result<Ty, Memory> {
+    record(alloc, vec![in alloc; ("a", a)]?, Rest::Var(row))
+}
+
+#[test]
+fn rows_that_hide_a_label_are_one_elsewhere(rt: HostRuntime) -> Result<(), Fail> {
+    let alloc = rt.alloc();
+    let left = with_a(alloc, Ty::Int, 0)?;
+    let right = with_a(alloc, Ty::Int, 1)?;
+    let bindings = Bindings::empty(alloc)?;
+    let bindings = made_equal(alloc, bindings, &left, &right)?.expect(&rt, "the rest is one");
+    let first = record(alloc, Vec::new(alloc), Rest::Var(0))?;
+    let second = record(alloc, Vec::new(alloc), Rest::Var(1))?;
+    assert!(rt; made_equal(alloc, bindings, &first, &second)?.is_some());
+    Ok(())
+}
+
+/// The two rows after they got a Boolean and a text at the label that was hidden.
+fn told_apart(
+    alloc: Global,
+    bindings: Bindings,
+    first: &Ty,
+    second: &Ty,
+) -> Result<Option<Bindings>, Memory> {
+    let zero = with_a(alloc, Ty::Bool, 2)?;
+    match made_equal(alloc, bindings, first, &zero)? {
+        Some(bindings) => {
+            let one = with_a(alloc, Ty::Text, 3)?;
+            made_equal(alloc, bindings, second, &one)
+        }
+        None => Ok(None),
+    }
+}
+
 #[test]
 fn rows_that_hide_a_label_may_differ_there(rt: HostRuntime) -> Result<(), Fail> {
     let alloc = rt.alloc();
+    let left = with_a(alloc, Ty::Int, 0)?;
+    let right = with_a(alloc, Ty::Int, 1)?;
+    let first = record(alloc, Vec::new(alloc), Rest::Var(0))?;
+    let second = record(alloc, Vec::new(alloc), Rest::Var(1))?;
     let bindings = Bindings::empty(alloc)?;
-    let a = record(alloc, vec![in alloc; ("a", Ty::Int)]?, Rest::Var(0))?;
-    let b = record(alloc, vec![in alloc; ("a", Ty::Int)]?, Rest::Var(1))?;
-    let bindings = made_equal(alloc, bindings, &a, &b)?.expect(&rt, "the rest is one");
-    let hidden = record(alloc, Vec::new(alloc), Rest::Var(0))?;
-    let other = record(alloc, Vec::new(alloc), Rest::Var(1))?;
-    let zero = record(alloc, vec![in alloc; ("a", Ty::Bool)]?, Rest::Var(2))?;
-    let one = record(alloc, vec![in alloc; ("a", Ty::Text)]?, Rest::Var(3))?;
-    let bindings = made_equal(alloc, bindings, &hidden, &zero)?.expect(&rt, "a Boolean");
-    let bindings = made_equal(alloc, bindings, &other, &one)?.expect(&rt, "a text");
-    assert!(rt; made_equal(alloc, bindings, &hidden, &other)?.is_none());
+    let bindings = made_equal(alloc, bindings, &left, &right)?.expect(&rt, "the rest is one");
+    let bindings = told_apart(alloc, bindings, &first, &second)?.expect(&rt, "they may differ");
+    assert!(rt; made_equal(alloc, bindings, &first, &second)?.is_none());
     Ok(())
 }
 
