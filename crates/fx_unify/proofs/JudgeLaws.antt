@@ -24,6 +24,7 @@ use Rattle.fx_unify.specs.Sorts.{allows}
 use Rattle.fx_unify.specs.Store.{entry, slot_in, root_at}
 use Rattle.fx_unify.specs.Work.{Hold, Holds, Within, Told, Refuses, IsField, Solving, nothing_more}
 use Rattle.fx_unify.proofs.AgreeLaws.{agree_less, agree_term}
+use Rattle.fx_unify.proofs.LessLaws.{least_smallest, less_smaller, int_less}
 use Rattle.fx_unify.proofs.DecideLaws.{fixed_more, fixed_of, no_item}
 use Rattle.fx_unify.proofs.RowLaws.{take_all}
 use Rattle.fx_unify.proofs.SolvingLaws.{type_is}
@@ -72,7 +73,7 @@ module _ (st : stores.Store) (ks : List sorts.Sorts) where
   judged_terms bs ts (Ok a) narrowed h t =
       let n : ℕ = h.0 + t.0 in
       let all : Solved (least st ks n) (entry st) × Within (least st ks n) = h.1 n (omega arith) in
-      (least st ks n, all.0, narrowed.1 n all.0, are_types ts t.0 n (omega arith) t.1, all.1)
+      (least st ks n, all.0, narrowed.1 n all.0, are_types ts t.0 n (omega arith) t.1, all.1, λ q solved keeps. least_smallest st ks q (solved, narrowed.0 q solved keeps) n)
   judged_terms bs ts (Err fault.Clash) narrowed h t = λ s solved keeps types within. t s (solved, narrowed.0 s solved keeps) types
   judged_terms bs ts (Err fault.Memory) narrowed h t = tt
 
@@ -106,7 +107,12 @@ module _ (b : declared.Bindings) (types : b.store.types.items ≡ []) (fields : 
   )
 
   pub nothing_least : HasLeast b
-  nothing_least = (plainest, nothing_asked plainest, (λ n. (tt, omega arith), λ n. (tt, tt), λ n. ((g_absent, refl, ([], λ l h. refl)), λ l. (tt, tt))))
+  nothing_least = (
+    plainest,
+    nothing_asked plainest,
+    (λ n. (tt, omega arith), λ n. (tt, tt), λ n. ((g_absent, refl, ([], λ l h. refl)), λ l. (tt, tt))),
+    λ q solves. less_smaller plainest q (λ n. int_less (q.type_of n), λ n. tt, λ r l. tt),
+  )
 
 -- bindings whose equations are solved
 
@@ -118,7 +124,7 @@ module _ (old new : declared.Bindings) (bounds_same : new.bounds ≡ old.bounds)
   )
 
   pub has_least : new.store.work.items ≡ [] → Judging {A = Unit {0}} (Ok tt) new.store new.bounds.items new.also.items → HasLeast new
-  has_least none h = (h.0, ((h.1, subst (Hold h.0) (sym none) tt), h.2, h.3), h.4)
+  has_least none h = (h.0, ((h.1, subst (Hold h.0) (sym none) tt), h.2, h.3), h.4, λ q solves. h.5 q solves.0.0 solves.1)
 
   pub judged_clash : (f : UnifyFault) → Judging {A = Unit {0}} (Err f) new.store new.bounds.items new.also.items
       → Told f ((s : Solution) → Solves s old → Within s → ⊥)

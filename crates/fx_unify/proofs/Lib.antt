@@ -8,6 +8,7 @@ pub mod JoinLaws
 pub mod JudgeLaws
 pub mod KindLaws
 pub mod LeastLaws
+pub mod LessLaws
 pub mod LightLaws
 pub mod MeasureLaws
 pub mod NumberLaws

@@ -69,7 +69,7 @@ by_time false true t m x e = refl
 by_time false false true m x e = refl
 by_time false false false m x e = ap (λ c. is_column (if c then g_time else x)) e
 
-allows_column : (k : sorts.Sorts) (g : Ground) → allows k g ≡ true → is_column g ≡ true → is_column (plainest_of k) ≡ true
+pub allows_column : (k : sorts.Sorts) (g : Ground) → allows k g ≡ true → is_column g ≡ true → is_column (plainest_of k) ≡ true
 allows_column k g_int e c = by_int k.integer _ e
 allows_column k g_bool e c = by_bool k.integer k.boolean _ e
 allows_column k g_text e c = by_text k.integer k.boolean k.text _ e

@@ -7,6 +7,7 @@ pub mod Measure
 pub mod Numbers
 pub mod Part
 pub mod Rows
+pub mod Smaller
 pub mod Solutions
 pub mod Sorts
 pub mod Store

@@ -4,15 +4,16 @@ use Rattle.fx_types.specs.Instance.{Solution}
 use Rattle.fx_unify.specs.declared.bindings.Bindings as declared
 use Rattle.fx_unify.specs.Bounds.{Keeps}
 use Rattle.fx_unify.specs.Judge.{AreTypes}
+use Rattle.fx_unify.specs.Smaller.{IsSmaller}
 use Rattle.fx_unify.specs.Work.{Holds, Within}
 
 -- all that is bound holds, the bounds are kept, and what is to be a type is one
 abbrev pub Solves : Solution → declared.Bindings → Type 0
 Solves s b = Holds s b.store × Keeps s b.bounds.items × AreTypes s b.also.items
 
--- one solution is within the limit
+-- the least solution: it is within the limit, and no term is smaller under another
 abbrev pub HasLeast : declared.Bindings → Type 0
-HasLeast b = (s : Solution) × Solves s b × Within s
+HasLeast b = (s : Solution) × Solves s b × Within s × ((q : Solution) → Solves q b → IsSmaller s q)
 
 -- more than each number that is used
 abbrev pub next_of : declared.Bindings → ℕ
