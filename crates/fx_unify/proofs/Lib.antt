@@ -1,4 +1,5 @@
 pub mod AgreeLaws
+pub mod ApplyLaws
 pub mod BoundLaws
 pub mod Cases
 pub mod CountLaws

@@ -1,10 +1,11 @@
 -- Rows of terms.
-use Rattle.std.specs.Prelude.{◌≡◌, true, List, [], ◌∷◌}
-use Rattle.fx_types.specs.Term.{Fields, no_fields, more_fields, is, Row}
+use Rattle.std.specs.Prelude.{◌≡◌, true, List, [], ◌∷◌, ◌++◌, map}
+use Rattle.fx_types.specs.Term.{Label, Fields, no_fields, more_fields, is, Row}
+use Rattle.fx_types.specs.declared.term.LabelField as entries
 use Rattle.fx_types.specs.declared.term.LabelTy as labels
-use Rattle.fx_types.specs.Shape.{OfField, term}
+use Rattle.fx_types.specs.Shape.{OfField, term, entry_term, label_term, fields_of, labels_of}
 use Rattle.fx_types.specs.Ground.{GroundRow}
-use Rattle.fx_types.specs.Instance.{Solution, ground_fields, ground_tail}
+use Rattle.fx_types.specs.Instance.{Solution, ground_fields, ground_labels, ground_tail}
 use Rattle.fx_unify.specs.declared.store.Column as columns
 use Rattle.fx_unify.specs.Store.{known}
 
@@ -24,3 +25,12 @@ SameAt r q (c ∷ cs) = (r c.label ≡ q c.label) × SameAt r q cs
 -- the entry of a row that a required label is
 abbrev pub as_field : labels.LabelTy → OfField
 as_field e = record { label = e.label; field = is (term e.ty) }
+
+-- the two lists of labels give the same at each label, whatever follows them
+abbrev pub SameLabels : Solution → List labels.LabelTy → List labels.LabelTy → Type 0
+SameLabels s xs ys = (zs : List labels.LabelTy) (l : Label) → ground_labels s (labels_of (map label_term (xs ++ zs))) l ≡ ground_labels s (labels_of (map label_term (ys ++ zs))) l
+
+-- the same of fields, over each row
+abbrev pub SameFields : Solution → List entries.LabelField → List entries.LabelField → Type 0
+SameFields s xs ys =
+    (zs : List entries.LabelField) (q : GroundRow) (l : Label) → ground_fields s (fields_of (map entry_term (xs ++ zs))) q l ≡ ground_fields s (fields_of (map entry_term (ys ++ zs))) q l

@@ -121,6 +121,14 @@ impl Bindings {
         )
     }
 
+    /// The type with what is bound put in for its type and field variables. Under every solution
+    /// it is the same type.
+    pub fn apply(&self, alloc: Global, ty: &Ty) -> Result<Ty, Memory>
+        ensures { IfOk result (λ t. (s : Solution) → Solves s self.now → ground s (term t) ≡ ground s (term ty.now)) }
+    {
+        self.store.apply_type(alloc, ty, u64::MAX)
+    }
+
     /// The first of so many numbers that nothing is bound to or asked of; None exactly where they
     /// pass 32 bits.
     pub fn unused(&self, count: u32) -> Option<u32>

@@ -1,6 +1,7 @@
 //! Unification of type terms with rows: bindings of variables, and whether two terms can be equal.
 #![tactic(auto)]
 
+mod apply;
 mod bindings;
 mod bounds;
 mod compare;

@@ -2,6 +2,7 @@
 use crate::{Bindings, UnifyFault, unify};
 use fx_base::{Boxed, List, Memory, Text};
 use fx_types::{FieldTy, FunTy, LabelField, LabelTy, Rest, RowTy, Ty};
+use fx_value::Kind;
 use std::alloc::Global;
 use std::test::Fail;
 
@@ -233,5 +234,104 @@ fn deep_terms_and_wide_rows(rt: HostRuntime) -> Result<(), Fail> {
     let wide = Ty::Rec(Boxed::new(alloc, RowTy { fields, rest })?);
     let copy = wide.copy(alloc)?;
     assert!(rt; can_be_equal(alloc, &wide, &copy)?);
+    Ok(())
+}
+
+/// The bindings under which the variable is one of the kinds; None where there are none.
+fn kept(
+    alloc: Global,
+    bindings: Bindings,
+    var: u32,
+    kinds: Vec<Kind>,
+    span: bool,
+) -> Result<Option<Bindings>, Memory> {
+    match bindings.bound(alloc, var, &List::of(kinds), span) {
+        Ok(bindings) => Ok(Some(bindings)),
+        Err(UnifyFault::Clash) => Ok(None),
+        Err(UnifyFault::Memory) => Err(Memory),
+    }
+}
+
+/// Whether the term can be a type under the bindings.
+fn can_be_type(alloc: Global, bindings: Bindings, ty: &Ty) -> Result<bool, Memory> {
+    match bindings.fits(alloc, ty) {
+        Ok(_) => Ok(true),
+        Err(UnifyFault::Clash) => Ok(false),
+        Err(UnifyFault::Memory) => Err(Memory),
+    }
+}
+
+#[test]
+fn bounds_are_kept(rt: HostRuntime) -> Result<(), Fail> {
+    let alloc = rt.alloc();
+    let kinds = vec![in alloc; Kind::Int, Kind::Text]?;
+    let bindings = Bindings::empty(alloc)?;
+    let bindings = kept(alloc, bindings, 0, kinds, false)?.expect(&rt, "two kinds");
+    let bindings = made_equal(alloc, bindings, &Ty::Var(0), &Ty::Var(1))?.expect(&rt, "a name");
+    assert!(rt; made_equal(alloc, bindings, &Ty::Var(1), &Ty::Bool)?.is_none());
+    Ok(())
+}
+
+#[test]
+fn two_bounds_meet(rt: HostRuntime) -> Result<(), Fail> {
+    let alloc = rt.alloc();
+    let some = vec![in alloc; Kind::Int, Kind::Text]?;
+    let others = vec![in alloc; Kind::Bool, Kind::Time]?;
+    let bindings = Bindings::empty(alloc)?;
+    let bindings = kept(alloc, bindings, 0, some, true)?.expect(&rt, "the first");
+    let bindings = kept(alloc, bindings, 1, others, true)?.expect(&rt, "the second");
+    let bindings = made_equal(alloc, bindings, &Ty::Var(0), &Ty::Var(1))?.expect(&rt, "durations");
+    assert!(rt; made_equal(alloc, bindings, &Ty::Var(0), &Ty::Int)?.is_none());
+    Ok(())
+}
+
+#[test]
+fn streams_have_columns_alone(rt: HostRuntime) -> Result<(), Fail> {
+    let alloc = rt.alloc();
+    let row = row(alloc, vec![in alloc; ("a", Ty::Var(0))]?, closed())?;
+    let stream = Ty::Stream(Boxed::new(alloc, row)?);
+    let bindings = Bindings::empty(alloc)?;
+    assert!(rt; can_be_type(alloc, bindings, &stream)?);
+    let bindings = Bindings::empty(alloc)?;
+    let bindings = kept(alloc, bindings, 0, Vec::new(alloc), true)?.expect(&rt, "a duration");
+    assert!(rt; !can_be_type(alloc, bindings, &stream)?);
+    Ok(())
+}
+
+#[test]
+fn a_default_is_plain(rt: HostRuntime) -> Result<(), Fail> {
+    let alloc = rt.alloc();
+    let column = record(alloc, Vec::new(alloc), Rest::Default(FieldTy::Is(Ty::Text)))?;
+    let bindings = Bindings::empty(alloc)?;
+    assert!(rt; can_be_type(alloc, bindings, &column)?);
+    let arrays = FieldTy::Is(array(alloc, Ty::Text)?);
+    let compound = record(alloc, Vec::new(alloc), Rest::Default(arrays))?;
+    let bindings = Bindings::empty(alloc)?;
+    assert!(rt; !can_be_type(alloc, bindings, &compound)?);
+    Ok(())
+}
+
+#[test]
+fn numbers_in_use_are_not_given(rt: HostRuntime) -> Result<(), Fail> {
+    let alloc = rt.alloc();
+    let bindings = Bindings::empty(alloc)?;
+    assert_eq!(rt; bindings.unused(1), Some(0));
+    let bindings = made_equal(alloc, bindings, &Ty::Var(7), &Ty::Int)?.expect(&rt, "an integer");
+    assert_eq!(rt; bindings.unused(2), Some(8));
+    assert_eq!(rt; bindings.unused(u32::MAX), None);
+    Ok(())
+}
+
+#[test]
+fn what_is_bound_is_put_in(rt: HostRuntime) -> Result<(), Fail> {
+    let alloc = rt.alloc();
+    let bindings = Bindings::empty(alloc)?;
+    let bindings = made_equal(alloc, bindings, &Ty::Var(0), &Ty::Time)?.expect(&rt, "a time");
+    let ty = array(alloc, Ty::Var(0))?;
+    let is_put_in = match bindings.apply(alloc, &ty)? {
+        Ty::Array(element) => matches!(element.get(), Ty::Time),
+        _ => false,
+    };
+    assert!(rt; is_put_in);
     Ok(())
 }
