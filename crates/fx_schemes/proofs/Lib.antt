@@ -1,0 +1,6 @@
+pub mod ColumnLaws
+pub mod Lists
+pub mod Results
+pub mod Rolled
+pub mod RowLaws
+pub mod SchemeLaws

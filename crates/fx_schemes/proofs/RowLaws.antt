@@ -1,0 +1,28 @@
+-- Rows with fields replaced.
+use Rattle.std.proofs.Common.{◌≡◌, refl, sym, ap, ◌∙◌, Bool, true, false}
+use Rattle.std.specs.Prelude.{if◌then◌else◌}
+use Rattle.fx_base.specs.Text.{same_text}
+use Rattle.fx_types.specs.Term.{Label}
+use Rattle.fx_types.specs.Ground.{GroundField, GroundRow}
+use Rattle.fx_types.proofs.RowSums.{by_cases, same_is, same_itself}
+use Rattle.fx_schemes.specs.Line.{replaced}
+
+pub chosen : {A : Type 0} (b : Bool) (x y : A) → b ≡ true → (if b then x else y) ≡ x
+chosen b x y e = ap (λ c. if c then x else y) e
+
+pub passed : {A : Type 0} (b : Bool) (x y : A) → b ≡ false → (if b then x else y) ≡ y
+passed b x y e = ap (λ c. if c then x else y) e
+
+pub same_row : (r q : GroundRow) → ((l : Label) → r l ≡ q l) → r ≡ q
+same_row r q h = λ i l. h l i
+
+-- R{x: f} has f at x
+pub has_put : (x : Label) (f : GroundField) (r : GroundRow) → replaced x f r x ≡ f
+has_put x f r = chosen (same_text x x) f (r x) (same_itself x)
+
+-- R has f at x already
+pub put_same : (x : Label) (f : GroundField) (r : GroundRow) → r x ≡ f → r ≡ replaced x f r
+put_same x f r h =
+    same_row r (replaced x f r) (λ l. by_cases (same_text l x)
+    (λ e. ap r (same_is l x e) ∙ h ∙ sym (chosen (same_text l x) f (r l) e))
+    (λ e. sym (passed (same_text l x) f (r l) e)))

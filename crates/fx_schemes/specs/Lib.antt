@@ -1,0 +1,6 @@
+pub mod Builtins
+pub mod Folds
+pub mod Given
+pub mod Line
+pub mod Plan
+pub mod Scheme

@@ -1,0 +1,190 @@
+//! Lines as code describes them, and the types of built-ins that are made of these.
+ghost use Rattle.std.specs.Prelude.{◌≡◌, ◌++◌, map, option_map, IfOk};
+ghost use Rattle.std.specs.Option.{option_copied};
+ghost use Rattle.fx_types.specs.Shape.{term, label_term, labels_of};
+ghost use Rattle.fx_schemes.specs.Plan.{cells_of, params_of, texts_of, fields_in, labels_in, value_scheme, call_scheme, scalar_scheme, piped_scheme, over_scheme, closed_scheme, place_of, places_of, transformed};
+ghost use Rattle.fx_schemes.specs.Scheme.{shown};
+
+use crate::builtin_type::BuiltinType;
+use crate::given::{LabelWords, text_at};
+use crate::simple::{Bound, Simple, bounds, simple_ty};
+use crate::terms::{function, params, stream_else, stream_over, texts};
+use fx_base::{List, Memory, Text};
+use fx_types::{LabelTy, Ty};
+use std::alloc::Global;
+
+/// How many variables of each sort a line has, and what its type variables stand for.
+#[derive(Clone, Copy, Debug)]
+pub(crate) struct Variables {
+    pub(crate) count: u32,
+    pub(crate) bound: Bound,
+}
+
+/// The label arguments and the other parameters of what takes a stream by `tables`.
+#[derive(Clone, Copy, Debug)]
+pub(crate) struct Plan<'a> {
+    pub(crate) labels: &'a [&'a str],
+    pub(crate) required: &'a [(&'a str, Simple)],
+    pub(crate) optional: &'a [(&'a str, Simple)],
+    pub(crate) variables: Variables,
+}
+
+/// A label of a row: itself, or the word that the call gives at a label argument.
+#[derive(Clone, Copy, Debug)]
+pub(crate) enum At<'a> {
+    Label(&'a str),
+    /// The one word at the first label.
+    Given(&'a str),
+    /// The one word at the first label, or the second where the call doesn't give it.
+    Word(&'a str, &'a str),
+}
+
+/// The type of a built-in that is no function.
+pub(crate) fn value(alloc: Global, ty: Ty) -> Result<BuiltinType, Memory>
+    ensures { IfOk result (λ t. shown t ≡ value_scheme (term ty)) }
+{
+    Ok(BuiltinType {
+        vars: 0,
+        ty,
+        optional: List::empty(alloc),
+        pipe_label: None,
+        labels: List::empty(alloc),
+        kinds: List::empty(alloc),
+    })
+}
+
+/// The type of a function that takes nothing by the pipe, and all of whose parameters are required.
+pub(crate) fn call(
+    alloc: Global,
+    required: List<LabelTy>,
+    gives: Ty,
+    variables: Variables,
+) -> Result<BuiltinType, Memory>
+    ensures { IfOk result (λ t. shown t ≡ call_scheme (labels_of (map label_term required)) (term gives) variables) }
+{
+    Ok(BuiltinType {
+        vars: variables.count,
+        ty: function(alloc, required, None, gives)?,
+        optional: List::empty(alloc),
+        pipe_label: None,
+        labels: List::empty(alloc),
+        kinds: bounds(alloc, variables.bound)?,
+    })
+}
+
+/// The type of a function of simple parameters with a simple result.
+pub(crate) fn scalar(
+    alloc: Global,
+    required: &[(&str, Simple)],
+    gives: Simple,
+    variables: Variables,
+) -> Result<BuiltinType, Memory>
+    ensures { IfOk result (λ t. shown t ≡ scalar_scheme (params_of required.now) gives variables) }
+{
+    let required = params(alloc, required)?;
+    call(alloc, required, simple_ty(alloc, gives)?, variables)
+}
+
+/// The type of a function that takes its input by the pipe or by this label.
+pub(crate) fn piped(
+    alloc: Global,
+    label: &str,
+    input: Ty,
+    required: List<LabelTy>,
+    gives: Ty,
+    plan: &Plan,
+) -> Result<BuiltinType, Memory>
+    ensures { IfOk result (λ t. shown t ≡ piped_scheme label.now (term input) (labels_of (map label_term required)) (term gives) plan.now) }
+{
+    Ok(BuiltinType {
+        vars: plan.variables.count,
+        ty: function(alloc, required, Some(input), gives)?,
+        optional: params(alloc, plan.optional)?,
+        pipe_label: Some(Text::of(alloc, label)?),
+        labels: texts(alloc, plan.labels)?,
+        kinds: bounds(alloc, plan.variables.bound)?,
+    })
+}
+
+/// From streams of the row of variable 0 with the asked cells to streams of that row with the
+/// made cells in place of what it has.
+pub(crate) fn over<'a>(
+    alloc: Global,
+    plan: &Plan,
+    asked: &[(&'a str, Option<Simple>)],
+    made: &[(&'a str, Option<Simple>)],
+) -> Result<BuiltinType, Memory>
+    ensures { IfOk result (λ t. shown t ≡ over_scheme plan.now (cells_of asked.now) (cells_of made.now)) }
+{
+    let input = stream_over(alloc, asked, 0)?;
+    let mut cells = made.to_vec(alloc)?;
+    cells.extend_from_slice(asked)?;
+    let gives = stream_over(alloc, &cells, 0)?;
+    let required = params(alloc, plan.required)?;
+    piped(alloc, "tables", input, required, gives, plan)
+}
+
+/// From streams of the row of variable 0 with the asked cells to streams of the row with the made
+/// cells, and the same at all other labels.
+pub(crate) fn closed(
+    alloc: Global,
+    plan: &Plan,
+    asked: &[(&str, Option<Simple>)],
+    made: &[(&str, Option<Simple>)],
+    other: Option<Simple>,
+) -> Result<BuiltinType, Memory>
+    ensures { IfOk result (λ t. shown t ≡ closed_scheme plan.now (cells_of asked.now) (cells_of made.now) other) }
+{
+    let input = stream_over(alloc, asked, 0)?;
+    let gives = stream_else(alloc, made, other)?;
+    let required = params(alloc, plan.required)?;
+    piped(alloc, "tables", input, required, gives, plan)
+}
+
+/// The label that this place of a row has in a call, or None where the call's words name none.
+fn place<'a>(given: &'a List<LabelWords>, at: At<'a>) -> Option<&'a str>
+    ensures { option_copied result ≡ place_of given.now at.entry }
+{
+    match at {
+        At::Label(label) => Some(label),
+        At::Given(label) => text_at(given, label, None),
+        At::Word(label, default) => text_at(given, label, Some(default)),
+    }
+}
+
+/// The cells at the labels of the call, or None where the call's words don't name one of them.
+fn places<'a>(
+    alloc: Global,
+    given: &'a List<LabelWords>,
+    entries: &[(At<'a>, Option<Simple>)],
+) -> Result<Option<Vec<(&'a str, Option<Simple>)>>, Memory>
+    ensures { IfOk result (λ o. option_map (λ v. cells_of v.items) o ≡ places_of given.now entries.now) }
+{
+    let mut cells = Vec::new(alloc);
+    for entry in entries {
+        match place(given, entry.0) {
+            Some(label) => cells.push((label, entry.1))?,
+            None => return Ok(None),
+        }
+    }
+    Ok(Some(cells))
+}
+
+/// As `over`, at the labels of the call. None where the call's words don't name one of them.
+pub(crate) fn transform<'a>(
+    alloc: Global,
+    given: &'a List<LabelWords>,
+    plan: &Plan,
+    asked: &[(At<'a>, Option<Simple>)],
+    made: &[(At<'a>, Option<Simple>)],
+) -> Result<Option<BuiltinType>, Memory>
+    ensures { IfOk result (λ o. option_map shown o ≡ transformed given.now plan.now asked.now made.now) }
+{
+    let Some(asked) = places(alloc, given, asked)? else {
+        return Ok(None);
+    };
+    let Some(made) = places(alloc, given, made)? else {
+        return Ok(None);
+    };
+    Ok(Some(over(alloc, plan, &asked, &made)?))
+}
