@@ -1,21 +1,33 @@
-use Rattle.std.proofs.Common.{◌≡◌, refl, sym, ap, subst, ◌∙◌, ℕ, true, false, List, [], ◌∷◌, Option, None, Some, ◌↔◌, ◌⊎◌, inl, inr}
+-- Aggregates and selectors: the schemes at a column, and their lines.
+use Rattle.std.proofs.Common.{refl, ap, ◌∙◌, List, [], ◌∷◌, None, Some, inl, inr, lit≤}
 use Rattle.std.specs.Prelude.{codes}
-use Rattle.std.specs.Borrow.{Bor}
 use Rattle.fx_types.specs.Term.{Label}
-use Rattle.fx_types.specs.Ground.{Ground, GroundRow, g_int, g_absent, g_is, g_stream}
-use Rattle.fx_types.specs.Instance.{Solution, plainest}
-use Rattle.fx_schemes.specs.declared.plan.Plan as plan
+use Rattle.fx_types.specs.Ground.{g_int, g_is, g_stream}
 use Rattle.fx_schemes.specs.declared.simple.Simple.TheVariants as simple
+use Rattle.fx_schemes.specs.declared.simple.Bound as kinds
 use Rattle.fx_schemes.specs.declared.simple.Bound.TheVariants as bound
-use Rattle.fx_schemes.specs.Given.{Given, text_at}
-use Rattle.fx_schemes.specs.Line.{Line, replaced, put, take_out, from_tables}
-use Rattle.fx_schemes.specs.Builtins.{Counts, OfColumn}
-use Rattle.fx_schemes.specs.Plan.{Cell, over_scheme}
-use Rattle.fx_schemes.specs.Scheme.{Scheme, IsInstance, IsSchemeOf, Says}
-use Rattle.fx_schemes.proofs.RowLaws.{has_put, put_same}
-use Rattle.fx_schemes.proofs.SchemeLaws.{built, solution, by_option}
+use Rattle.fx_schemes.specs.Line.{put, take_out, from_tables}
+use Rattle.fx_schemes.specs.Builtins.{Counts, AtColumn}
+use Rattle.fx_schemes.specs.Plan.{Cell}
+use Rattle.fx_schemes.specs.Scheme.{Scheme, IsSchemeOf}
+use Rattle.fx_schemes.proofs.RowLaws.{has_put, moved}
+use Rattle.fx_schemes.proofs.SchemeLaws.{built, solution, over_tables}
 
--- the plan of what has one label argument and no other parameter
-module _ (p : plan.Plan) where
-  counts_scheme : Label → Scheme
-  counts_scheme x = over_scheme p ((x, Some (simple.Var 0)) ∷ []) ((x, Some simple.Int) ∷ (codes "_time", None) ∷ [])
+-- of what has one label argument and no other parameter
+abbrev at_column : kinds.Bound → List Cell → List Cell → Scheme
+at_column b asked made = over_tables (codes "column" ∷ []) [] [] 1 b asked made
+
+abbrev pub counts : Label → Scheme
+counts x = at_column bound.Column ((x, Some (simple.Var 0)) ∷ []) ((x, Some simple.Int) ∷ (codes "_time", None) ∷ [])
+
+pub counts_law : (x : Label) → IsSchemeOf (AtColumn Counts x) (counts x)
+counts_law x = built _ _ refl refl (lit≤ tt) (inr (inl refl), tt) (λ L. (
+  λ h. (_, _, (h.0.type_of 0, h.1.0, has_put x _ (h.0.row_of 0), refl), h.2),
+  λ d. (
+    solution d.2.0 d.0,
+    (d.2.1, tt),
+    d.3
+    ∙ ap (λ q. from_tables d.0 (codes "column" ∷ []) [] [] (g_stream q)) d.2.3
+    ∙ moved x (g_is d.2.0) d.0 (λ r. from_tables r (codes "column" ∷ []) [] [] (g_stream (put x g_int (take_out (codes "_time") r)))) d.2.2,
+  ),
+))

@@ -1,4 +1,5 @@
 pub mod ColumnLaws
+pub mod Sizes
 pub mod Lists
 pub mod Results
 pub mod Rolled

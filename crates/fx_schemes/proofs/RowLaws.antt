@@ -1,5 +1,5 @@
 -- Rows with fields replaced.
-use Rattle.std.proofs.Common.{◌≡◌, refl, sym, ap, ◌∙◌, Bool, true, false}
+use Rattle.std.proofs.Common.{◌≡◌, sym, ap, ◌∙◌, Bool, true, false}
 use Rattle.std.specs.Prelude.{if◌then◌else◌}
 use Rattle.fx_base.specs.Text.{same_text}
 use Rattle.fx_types.specs.Term.{Label}
@@ -26,3 +26,7 @@ put_same x f r h =
     same_row r (replaced x f r) (λ l. by_cases (same_text l x)
     (λ e. ap r (same_is l x e) ∙ h ∙ sym (chosen (same_text l x) f (r l) e))
     (λ e. sym (passed (same_text l x) f (r l) e)))
+
+-- what hangs on R is the same with f put at x, where it is already
+pub moved : {A : Type 0} (x : Label) (f : GroundField) (r : GroundRow) (F : GroundRow → A) → r x ≡ f → F r ≡ F (replaced x f r)
+moved x f r F h = ap F (put_same x f r h)

@@ -12,7 +12,7 @@ use Rattle.fx_schemes.specs.declared.fold.Fold.TheVariants as fold
 use Rattle.fx_schemes.specs.declared.given.LabelWords as given
 use Rattle.fx_schemes.specs.Folds.{fold_of}
 use Rattle.fx_schemes.specs.Given.{Given, words_at, IsWord, IsWordOr, AreWords, AreWordsOr}
-use Rattle.fx_schemes.specs.Line.{Line, put, take_out, Has, HasAll, EachIs, kept, without, named, HasBounds, stored, OneOf, IsKind, IsMoment, Parameters, parameters, value, call, piped, from_tables, of_row, of_rows}
+use Rattle.fx_schemes.specs.Line.{Line, put, take_out, Has, HasAll, EachIs, kept, without, named, HasBounds, stored, OneOf, IsKind, IsMoment, parameters, value, call, piped, from_tables, of_row, of_rows}
 
 -- what aggregates and selectors make of R at the column x
 
@@ -44,11 +44,14 @@ Folds (Some fold.Sum) x r q = Sums x r q
 Folds (Some fold.Extreme) x r q = Extremes x r q
 Folds (Some fold.End) x r q = Ends x r q
 
--- (tables=<-: stream of R, column'="_value") => stream of what is made of R
+-- (tables=<-: stream of R, column'=x) => stream of what is made of R
+abbrev pub AtColumn : (Label → GroundRow → GroundRow → Type 0) → Label → Line → Type 0
+AtColumn Makes x L =
+    (r : GroundRow) × (q : GroundRow) × Makes x r q × (L ≡ from_tables r (codes "column" ∷ []) [] [] (g_stream q))
+
+-- the same at the word, which is "_value" where it is left out
 abbrev pub OfColumn : (Label → GroundRow → GroundRow → Type 0) → Given → Line → Type 0
-OfColumn Makes w L =
-    (x : Label) × IsWordOr w (codes "column") (codes "_value") x × (r : GroundRow) × (q : GroundRow) × Makes x r q
-    × (L ≡ from_tables r (codes "column" ∷ []) [] [] (g_stream q))
+OfColumn Makes w L = (x : Label) × IsWordOr w (codes "column") (codes "_value") x × AtColumn Makes x L
 
 -- (bucket: string) => stream of what is stored under the kind
 abbrev pub OfBucket : Ground → Line → Type 0
@@ -61,8 +64,8 @@ OfPart L = (r : GroundRow) × (L ≡ from_tables r [] ((codes "n", g_int) ∷ []
 -- (tables=<-: stream of R[x: int], columns'=["_value"]) => stream of R, where x is the one column
 abbrev pub OfSteps : Given → Line → Type 0
 OfSteps w L =
-    (x : Label) × IsWordOr w (codes "columns") (codes "_value") x × (r : GroundRow) × Has r x g_int
-    × (L ≡ from_tables r (codes "columns" ∷ []) [] [] (g_stream r))
+    (x : Label) × IsWordOr w (codes "columns") (codes "_value") x
+    × ((r : GroundRow) × Has r x g_int × (L ≡ from_tables r (codes "columns" ∷ []) [] [] (g_stream r)))
 
 -- (left=<-: stream of R, right: stream of S, on: (l: R, r: S) => bool, as: (l: R, r: S) => Q) => stream of Q
 abbrev pub OfSides : Line → Type 0
@@ -140,8 +143,9 @@ IsLine b.Window w L =
 -- (tables=<-: stream of R[_time, _start, _stop: time], every: duration, fn', createEmpty: bool)
 -- => stream of what the function makes of R at _value, with _time: time
 IsLine b.AggregateWindow w L =
-    (f : Label) × IsWord w (codes "fn") f × (r : GroundRow) × (q : GroundRow) × HasBounds r × Folds (fold_of f) (codes "_value") r q
-    × (L ≡ from_tables r (codes "fn" ∷ []) ((codes "every", g_span) ∷ []) ((codes "createEmpty", g_bool) ∷ []) (g_stream (put (codes "_time") g_time q)))
+    (f : Label) × IsWord w (codes "fn") f
+    × ((r : GroundRow) × (q : GroundRow) × HasBounds r × Folds (fold_of f) (codes "_value") r q
+    × (L ≡ from_tables r (codes "fn" ∷ []) ((codes "every", g_span) ∷ []) ((codes "createEmpty", g_bool) ∷ []) (g_stream (put (codes "_time") g_time q))))
 -- (tables=<-: stream of R, identity: A, fn: (r: R, accumulator: A) => A) => stream of A
 IsLine b.Reduce w L =
     (r : GroundRow) × (a : GroundRow)
@@ -174,17 +178,17 @@ IsLine b.Rename w L =
     × (L ≡ from_tables r (codes "columns" ∷ []) [] [] (g_stream (named olds news r (without olds r))))
 -- (tables=<-: stream of R[x: C], column'=x, as'=y) => stream of R{y: C}
 IsLine b.Duplicate w L =
-    (x : Label) × IsWord w (codes "column") x × (y : Label) × IsWord w (codes "as") y
-    × (r : GroundRow) × (c : Ground) × IsKind c × Has r x c
-    × (L ≡ from_tables r (codes "column" ∷ codes "as" ∷ []) [] [] (g_stream (put y c r)))
+    (x : Label) × IsWord w (codes "column") x
+    × ((y : Label) × IsWord w (codes "as") y
+    × ((r : GroundRow) × (c : Ground) × IsKind c × Has r x c × (L ≡ from_tables r (codes "column" ∷ codes "as" ∷ []) [] [] (g_stream (put y c r)))))
 -- (tables=<-: stream of R, key'=x, value: string) => stream of R{x: string}
 IsLine b.Set w L =
-    (x : Label) × IsWord w (codes "key") x × (r : GroundRow)
-    × (L ≡ from_tables r (codes "key" ∷ []) ((codes "value", g_text) ∷ []) [] (g_stream (put x g_text r)))
+    (x : Label) × IsWord w (codes "key") x
+    × ((r : GroundRow) × (L ≡ from_tables r (codes "key" ∷ []) ((codes "value", g_text) ∷ []) [] (g_stream (put x g_text r))))
 -- (tables=<-: stream of R[x: C], column'="_value", value: C) => stream of R
 IsLine b.Fill w L =
-    (x : Label) × IsWordOr w (codes "column") (codes "_value") x × (r : GroundRow) × (c : Ground) × IsKind c × Has r x c
-    × (L ≡ from_tables r (codes "column" ∷ []) ((codes "value", c) ∷ []) [] (g_stream r))
+    (x : Label) × IsWordOr w (codes "column") (codes "_value") x
+    × ((r : GroundRow) × (c : Ground) × IsKind c × Has r x c × (L ≡ from_tables r (codes "column" ∷ []) ((codes "value", c) ∷ []) [] (g_stream r)))
 -- (tables=<-: stream of R, columns'=["_value"], desc: bool) => stream of R, each column present
 IsLine b.Sort w L =
     (xs : List Label) × AreWordsOr w (codes "columns") (codes "_value" ∷ []) xs × (r : GroundRow) × HasAll r xs
@@ -195,9 +199,10 @@ IsLine b.Difference w L = OfSteps w L
 IsLine b.CumulativeSum w L = OfSteps w L
 -- (tables=<-: stream of R[x: time], unit: duration, timeColumn'="_time", columnName'="elapsed") => stream of R{y: int}
 IsLine b.Elapsed w L =
-    (x : Label) × IsWordOr w (codes "timeColumn") (codes "_time") x × (y : Label) × IsWordOr w (codes "columnName") (codes "elapsed") y
-    × (r : GroundRow) × Has r x g_time
-    × (L ≡ from_tables r (codes "timeColumn" ∷ codes "columnName" ∷ []) [] ((codes "unit", g_span) ∷ []) (g_stream (put y g_int r)))
+    (x : Label) × IsWordOr w (codes "timeColumn") (codes "_time") x
+    × ((y : Label) × IsWordOr w (codes "columnName") (codes "elapsed") y
+    × ((r : GroundRow) × Has r x g_time
+    × (L ≡ from_tables r (codes "timeColumn" ∷ codes "columnName" ∷ []) [] ((codes "unit", g_span) ∷ []) (g_stream (put y g_int r)))))
 -- (tables=<-: stream of R[z: C], rowKey'=xs, columnKey'=ys, valueColumn'=z) => stream of the fields xs, each present, and C
 -- elsewhere; each of ys is a string, and no label is in two of the three
 IsLine b.Pivot w L =

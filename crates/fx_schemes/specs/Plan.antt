@@ -1,7 +1,7 @@
 -- How code describes lines: by simple types, and rows whose labels may be words of the call.
-use Rattle.std.specs.Prelude.{◌≡◌, ℕ, Bool, true, false, List, [], ◌∷◌, ◌++◌, Option, None, Some, map, codes}
+use Rattle.std.specs.Prelude.{ℕ, true, false, List, [], ◌∷◌, ◌++◌, Option, None, Some, map, codes}
 use Rattle.std.specs.Borrow.{Bor}
-use Rattle.fx_types.specs.Term.{Label, Term, bool, int, text, time, span, done, type_variable, array, fun, stream, Labels, no_labels, more_labels, Pipe, no_pipe, by_pipe, Field, absent, is, Fields, no_fields, more_fields, Tail, default, row_variable}
+use Rattle.fx_types.specs.Term.{Label, Term, bool, int, text, time, span, type_variable, array, fun, stream, Labels, no_labels, no_pipe, by_pipe, Field, absent, is, Fields, default, row_variable}
 use Rattle.fx_types.specs.Shape.{OfField, OfLabel, labels_of, fields_of}
 use Rattle.fx_value.specs.declared.scalar.Kind.{Kind}
 use Rattle.fx_value.specs.declared.scalar.Kind.TheVariants as kind

@@ -2,6 +2,7 @@
 #![tactic(auto)]
 
 mod builtin_type;
+mod aggregates;
 mod fold;
 mod given;
 mod list;

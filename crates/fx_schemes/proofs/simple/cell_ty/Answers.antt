@@ -1,4 +1,4 @@
-use Rattle.std.proofs.Common.{refl, sym, ap, ◌∙◌}
+use Rattle.std.proofs.Common.{sym, ap, ◌∙◌}
 use Rattle.fx_types.specs.Term.{is}
 use Rattle.fx_types.proofs.ShapeLaws.{field_absent, field_is}
 use Rattle.fx_schemes.specs.Plan.{cell_field}
