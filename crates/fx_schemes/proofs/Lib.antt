@@ -1,7 +1,15 @@
+pub mod ChangeLaws
 pub mod ColumnLaws
-pub mod Sizes
+pub mod JoinLaws
+pub mod LineLaws
+pub mod ListLaws
 pub mod Lists
+pub mod NameLaws
+pub mod NumberLaws
+pub mod PivotLaws
 pub mod Results
 pub mod Rolled
 pub mod RowLaws
 pub mod SchemeLaws
+pub mod Sizes
+pub mod WindowLaws

@@ -1,5 +1,5 @@
 -- The plain data of rows, functions and labels that were just made.
-use Rattle.std.proofs.Common.{◌≡◌, ◌∙◌, ap, map, List, Option}
+use Rattle.std.proofs.Common.{◌≡◌, ◌∙◌, ap, map, List, [], ◌∷◌, Option}
 use Rattle.std.specs.Prelude.{option_map}
 use Rattle.fx_types.specs.declared.term.FunTy.{FunTy}
 use Rattle.fx_types.specs.declared.term.LabelField.{LabelField}
@@ -10,8 +10,9 @@ use Rattle.fx_types.specs.declared.term.Ty.{Ty}
 use Rattle.fx_types.specs.declared.term.Ty.TheVariants as ty
 use Rattle.fx_types.specs.declared.term.FieldTy.{FieldTy}
 use Rattle.fx_types.specs.declared.term.FieldTy.TheViews.{roll-RowTy, out-roll-RowTy, roll-FunTy, out-roll-FunTy, roll-LabelTy, out-roll-LabelTy, roll-LabelField, out-roll-LabelField}
-use Rattle.fx_types.specs.Term.{Label, Term, Field, Tail, stream, rec, fun}
+use Rattle.fx_types.specs.Term.{Label, Term, Field, Tail, stream, rec, fun, no_pipe}
 use Rattle.fx_types.specs.Shape.{OfField, OfLabel, term, field_term, rest_term, entry_term, label_term, row_term, fun_term, fields_of, labels_of, pipe_of}
+use Rattle.fx_schemes.specs.Plan.{labelled}
 use Rattle.fx_types.proofs.ShapeLaws.{term_stream, term_rec, term_fun, row_is, function_is, labelled_is, entry_is}
 
 row_rolled : (fs : List LabelField) (r : Rest) (row : RowTy) → row ≡ roll-RowTy (record { fields = fs; rest = r })
@@ -39,7 +40,7 @@ fun_rolled ls p t f e =
     ∙ ap (λ o. record { required = labels_of (map label_term o.required); pipe = pipe_of (option_map term o.pipe); result = term o.result })
     (out-roll-FunTy (record { required = ls; pipe = p; result = t })))
 
-pub label_rolled : (x : Label) (t : Ty) → label_term (roll-LabelTy (record { label = x; ty = t })) ≡ record { label = x; type = term t }
+pub label_rolled : (x : Label) (t : Ty) → label_term (roll-LabelTy (record { label = x; ty = t })) ≡ labelled x (term t)
 label_rolled x t =
     labelled_is (roll-LabelTy (record { label = x; ty = t }))
     ∙ ap (λ o. record { label = o.label; type = term o.ty }) (out-roll-LabelTy (record { label = x; ty = t }))
@@ -52,9 +53,6 @@ entry_rolled x f =
 abbrev pub entry : Label → Field → OfField
 entry x f = record { label = x; field = f }
 
-abbrev pub labelled : Label → Term → OfLabel
-labelled x t = record { label = x; type = t }
-
 pub same_stream : (a b : List OfField) (r t : Tail) → a ≡ b → r ≡ t → stream (fields_of a) r ≡ stream (fields_of b) t
 same_stream a b r t e h = ap (λ x. stream (fields_of x) r) e ∙ ap (stream (fields_of b)) h
 
@@ -63,3 +61,11 @@ same_entry x y f g e h = ap (λ z. entry z f) e ∙ ap (entry y) h
 
 pub same_param : (x y : Label) (t u : Term) → x ≡ y → t ≡ u → labelled x t ≡ labelled y u
 same_param x y t u e h = ap (λ z. labelled z t) e ∙ ap (labelled y) h
+
+pub same_rec : (a b : List OfField) (r t : Tail) → a ≡ b → r ≡ t → rec (fields_of a) r ≡ rec (fields_of b) t
+same_rec a b r t e h = ap (λ x. rec (fields_of x) r) e ∙ ap (rec (fields_of b)) h
+
+pub same_two : (a b x y : OfLabel) (t u : Term) → a ≡ b → x ≡ y → t ≡ u
+    → fun (labels_of (a ∷ x ∷ [])) no_pipe t ≡ fun (labels_of (b ∷ y ∷ [])) no_pipe u
+same_two a b x y t u e h k =
+    ap (λ z. fun (labels_of (z ∷ x ∷ [])) no_pipe t) e ∙ ap (λ z. fun (labels_of (b ∷ z ∷ [])) no_pipe t) h ∙ ap (fun (labels_of (b ∷ y ∷ [])) no_pipe) k

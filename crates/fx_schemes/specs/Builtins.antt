@@ -1,17 +1,16 @@
 -- The built-ins, each as the set of its lines at the words that a call gives at its label arguments.
 -- R is the row of the input, and any row that makes the line a type may stand for it, and for Q, S, A.
 -- `docs/builtins.md` has the same lines as a table.
-use Rattle.std.specs.Prelude.{◌≡◌, true, false, List, [], ◌∷◌, Option, None, Some, ◌⊎◌, codes, length}
+use Rattle.std.specs.Prelude.{◌≡◌, Bool, true, false, List, [], ◌∷◌, Option, None, Some, codes, length, if◌then◌else◌, ◌==◌, ◌&&◌, not}
 use Rattle.fx_types.specs.Term.{Label}
 use Rattle.fx_types.specs.Ground.{Ground, GroundRow, g_bool, g_int, g_text, g_time, g_span, g_done, g_array, g_fun, g_rec, g_stream, g_absent, g_is, listed}
-use Rattle.fx_types.specs.Size.{AreDistinct}
 use Rattle.fx_schemes.specs.declared.list.Builtin.{Builtin}
 use Rattle.fx_schemes.specs.declared.list.Builtin.TheVariants as b
 use Rattle.fx_schemes.specs.declared.fold.Fold.{Fold}
 use Rattle.fx_schemes.specs.declared.fold.Fold.TheVariants as fold
 use Rattle.fx_schemes.specs.declared.given.LabelWords as given
 use Rattle.fx_schemes.specs.Folds.{fold_of}
-use Rattle.fx_schemes.specs.Given.{Given, words_at, IsWord, IsWordOr, AreWords, AreWordsOr}
+use Rattle.fx_schemes.specs.Given.{Given, words_at, is_one_of, IsWord, IsWordOr, AreWords, AreWordsOr}
 use Rattle.fx_schemes.specs.Line.{Line, put, take_out, Has, HasAll, EachIs, kept, without, named, HasBounds, stored, OneOf, IsKind, IsMoment, parameters, value, call, piped, from_tables, of_row, of_rows}
 
 -- what aggregates and selectors make of R at the column x
@@ -53,6 +52,13 @@ AtColumn Makes x L =
 abbrev pub OfColumn : (Label → GroundRow → GroundRow → Type 0) → Given → Line → Type 0
 OfColumn Makes w L = (x : Label) × IsWordOr w (codes "column") (codes "_value") x × AtColumn Makes x L
 
+-- (tables=<-: stream of R[_time, _start, _stop: time], every: duration, fn', createEmpty: bool)
+-- => stream of what is made of R at _value, with _time: time
+abbrev pub OfWindows : (Label → GroundRow → GroundRow → Type 0) → Line → Type 0
+OfWindows Makes L =
+    (r : GroundRow) × (q : GroundRow) × HasBounds r × Makes (codes "_value") r q
+    × (L ≡ from_tables r (codes "fn" ∷ []) ((codes "every", g_span) ∷ []) ((codes "createEmpty", g_bool) ∷ []) (g_stream (put (codes "_time") g_time q)))
+
 -- (bucket: string) => stream of what is stored under the kind
 abbrev pub OfBucket : Ground → Line → Type 0
 OfBucket k L = L ≡ call ((codes "bucket", g_text) ∷ []) [] (g_stream (stored k))
@@ -66,6 +72,16 @@ abbrev pub OfSteps : Given → Line → Type 0
 OfSteps w L =
     (x : Label) × IsWordOr w (codes "columns") (codes "_value") x
     × ((r : GroundRow) × Has r x g_int × (L ≡ from_tables r (codes "columns" ∷ []) [] [] (g_stream r)))
+
+-- (tables=<-: stream of R, fn: (r: R) => bool, onEmpty') => stream of R
+abbrev pub OfRows : Line → Type 0
+OfRows L = (r : GroundRow) × (L ≡ from_tables r (codes "onEmpty" ∷ []) ((codes "fn", of_row r g_bool) ∷ []) [] (g_stream r))
+
+-- (left=<-: stream of R[_time: time], right: stream of S[_time: time], as: (l: R, r: S) => Q, method') => stream of Q
+abbrev pub OfTimes : Line → Type 0
+OfTimes L =
+    (r : GroundRow) × Has r (codes "_time") g_time × (s : GroundRow) × Has s (codes "_time") g_time × (q : GroundRow)
+    × (L ≡ piped (codes "left") r (codes "method" ∷ []) ((codes "right", g_stream s) ∷ (codes "as", of_rows r s (g_rec q)) ∷ []) [] (g_stream q))
 
 -- (left=<-: stream of R, right: stream of S, on: (l: R, r: S) => bool, as: (l: R, r: S) => Q) => stream of Q
 abbrev pub OfSides : Line → Type 0
@@ -89,25 +105,58 @@ OfTime L = L ≡ call ((codes "t", g_time) ∷ []) [] g_int
 abbrev pub OfSpan : Label → Line → Type 0
 OfSpan x L = L ≡ call ((codes "d", g_span) ∷ (x, g_time) ∷ []) [] g_time
 
--- the word at the label is one of two, or of four
+-- (tables=<-: stream of R, columns', mode') => stream of R, each column present
+abbrev pub OfGroup : List Label → Line → Type 0
+OfGroup xs L = (r : GroundRow) × HasAll r xs × (L ≡ from_tables r (codes "columns" ∷ codes "mode" ∷ []) [] [] (g_stream r))
+
+-- (tables=<-: stream of R, columns', desc: bool) => stream of R, each column present
+abbrev pub OfSort : List Label → Line → Type 0
+OfSort xs L = (r : GroundRow) × HasAll r xs × (L ≡ from_tables r (codes "columns" ∷ []) [] ((codes "desc", g_bool) ∷ []) (g_stream r))
+
+-- (tables=<-: stream of R, columns') => stream of the listed fields, each present
+abbrev pub OfKeep : List Label → Line → Type 0
+OfKeep xs L = (r : GroundRow) × HasAll r xs × (L ≡ from_tables r (codes "columns" ∷ []) [] [] (g_stream (kept xs r g_absent)))
+
+-- (tables=<-: stream of R, columns') => stream of R with the listed Absent
+abbrev pub OfDrop : List Label → Line → Type 0
+OfDrop xs L = (r : GroundRow) × (L ≡ from_tables r (codes "columns" ∷ []) [] [] (g_stream (without xs r)))
+
+-- (tables=<-: stream of R, columns') => stream of R with the olds, each present, Absent, and then the news of their types
+abbrev pub OfRename : List Label → List Label → Line → Type 0
+OfRename olds news L =
+    (r : GroundRow) × HasAll r olds × (L ≡ from_tables r (codes "columns" ∷ []) [] [] (g_stream (named olds news r (without olds r))))
+
+-- (tables=<-: stream of R[z: C], rowKey'=xs, columnKey'=ys, valueColumn'=z) => stream of the fields xs, each present, and C
+-- elsewhere; each of ys is a string
+abbrev pub OfPivot : List Label → List Label → Label → Line → Type 0
+OfPivot xs ys z L =
+    (r : GroundRow) × HasAll r xs × EachIs r ys g_text × (c : Ground) × IsKind c × Has r z c
+    × (L ≡ from_tables r (codes "rowKey" ∷ codes "columnKey" ∷ codes "valueColumn" ∷ []) [] [] (g_stream (kept xs r (g_is c))))
+
+-- the listed words of `mode` and of `method`
 abbrev pub IsMode : Given → Type 0
-IsMode w = IsWordOr w (codes "mode") (codes "by") (codes "by") ⊎ IsWordOr w (codes "mode") (codes "by") (codes "except")
+IsMode w = is_one_of w (codes "mode") (codes "by") (codes "by" ∷ codes "except" ∷ []) ≡ true
 
 abbrev pub IsMethod : Given → Type 0
-IsMethod w =
-    (m : Label) × IsWordOr w (codes "method") (codes "inner") m
-    × (listed m (codes "inner" ∷ codes "left" ∷ codes "right" ∷ codes "full" ∷ []) ≡ true)
+IsMethod w = is_one_of w (codes "method") (codes "inner") (codes "inner" ∷ codes "left" ∷ codes "right" ∷ codes "full" ∷ []) ≡ true
 
--- no label is in both lists
-abbrev pub Apart : List Label → List Label → Type 0
-Apart [] ys = Unit {0}
-Apart (x ∷ xs) ys = (listed x ys ≡ false) × Apart xs ys
+-- no label of the first list is in the second
+abbrev pub apart : List Label → List Label → Bool
+apart [] ys = true
+apart (x ∷ xs) ys = if listed x ys then false else apart xs ys
+
+-- no label is in two of what `pivot` takes
+abbrev pub are_apart : List Label → List Label → Label → Bool
+are_apart xs ys z = apart xs ys && (not (listed z xs) && not (listed z ys))
+
+-- without repeats
+abbrev pub differ : List Label → Bool
+differ [] = true
+differ (x ∷ xs) = if listed x xs then false else differ xs
 
 -- the olds and the news of `rename`: as many, and each without repeats
-abbrev pub AreNames : Given → List Label → List Label → Type 0
-AreNames w olds news =
-    (g : given.LabelWords) × (words_at w (codes "columns") ≡ Some g) × (g.words ≡ olds) × (g.news ≡ news)
-    × (length olds ≡ length news) × AreDistinct olds × AreDistinct news
+abbrev pub are_names : List Label → List Label → Bool
+are_names olds news = (length olds == length news) && (differ olds && differ news)
 
 unfoldable pub IsLine : Builtin → Given → Line → Type 0
 -- sources
@@ -123,29 +172,23 @@ IsLine b.ArrayFrom w L = (q : GroundRow) × (L ≡ call ((codes "rows", g_array 
 IsLine b.Range w L =
     (r : GroundRow) × Has r (codes "_time") g_time × (start : Ground) × IsMoment start × (stop : Ground) × IsMoment stop
     × (L ≡ from_tables r [] ((codes "start", start) ∷ []) ((codes "stop", stop) ∷ []) (g_stream (put (codes "_start") g_time (put (codes "_stop") g_time r))))
--- (tables=<-: stream of R, fn: (r: R) => bool, onEmpty'="drop") => stream of R
-IsLine b.Filter w L =
-    IsWordOr w (codes "onEmpty") (codes "drop") (codes "drop") × (r : GroundRow)
-    × (L ≡ from_tables r (codes "onEmpty" ∷ []) ((codes "fn", of_row r g_bool) ∷ []) [] (g_stream r))
+-- onEmpty'="drop", of which no other word is known yet
+IsLine b.Filter w L = (is_one_of w (codes "onEmpty") (codes "drop") (codes "drop" ∷ []) ≡ true) × OfRows L
 -- (tables=<-: stream of R, fn: (r: R) => Q) => stream of Q
 IsLine b.Map w L =
     (r : GroundRow) × (q : GroundRow) × (L ≡ from_tables r [] ((codes "fn", of_row r (g_rec q)) ∷ []) [] (g_stream q))
--- (tables=<-: stream of R, columns'=[], mode'="by") => stream of R, each column present
+-- columns'=[], mode'="by"
 IsLine b.Group w L =
-    (xs : List Label) × AreWordsOr w (codes "columns") [] xs × IsMode w × (r : GroundRow) × HasAll r xs
-    × (L ≡ from_tables r (codes "columns" ∷ codes "mode" ∷ []) [] [] (g_stream r))
+    IsMode w × ((xs : List Label) × AreWordsOr w (codes "columns") [] xs × OfGroup xs L)
 -- (tables: array of streams of R) => stream of R
 IsLine b.Union w L = (r : GroundRow) × (L ≡ call ((codes "tables", g_array (g_stream r)) ∷ []) [] (g_stream r))
 -- (tables=<-: stream of R[_time, _start, _stop: time], every: duration, period: duration) => stream of R
 IsLine b.Window w L =
     (r : GroundRow) × HasBounds r
     × (L ≡ from_tables r [] ((codes "every", g_span) ∷ []) ((codes "period", g_span) ∷ []) (g_stream r))
--- (tables=<-: stream of R[_time, _start, _stop: time], every: duration, fn', createEmpty: bool)
--- => stream of what the function makes of R at _value, with _time: time
+-- the same, where the function of the word `fn` makes it
 IsLine b.AggregateWindow w L =
-    (f : Label) × IsWord w (codes "fn") f
-    × ((r : GroundRow) × (q : GroundRow) × HasBounds r × Folds (fold_of f) (codes "_value") r q
-    × (L ≡ from_tables r (codes "fn" ∷ []) ((codes "every", g_span) ∷ []) ((codes "createEmpty", g_bool) ∷ []) (g_stream (put (codes "_time") g_time q))))
+    (f : Label) × IsWord w (codes "fn") f × OfWindows (Folds (fold_of f)) L
 -- (tables=<-: stream of R, identity: A, fn: (r: R, accumulator: A) => A) => stream of A
 IsLine b.Reduce w L =
     (r : GroundRow) × (a : GroundRow)
@@ -164,18 +207,10 @@ IsLine b.First w L = OfColumn Ends w L
 IsLine b.Last w L = OfColumn Ends w L
 -- columns and rows
 
--- (tables=<-: stream of R, columns') => stream of the listed fields, each present
-IsLine b.Keep w L =
-    (xs : List Label) × AreWords w (codes "columns") xs × (r : GroundRow) × HasAll r xs
-    × (L ≡ from_tables r (codes "columns" ∷ []) [] [] (g_stream (kept xs r g_absent)))
--- (tables=<-: stream of R, columns') => stream of R with the listed Absent
-IsLine b.Drop w L =
-    (xs : List Label) × AreWords w (codes "columns") xs × (r : GroundRow)
-    × (L ≡ from_tables r (codes "columns" ∷ []) [] [] (g_stream (without xs r)))
--- (tables=<-: stream of R, columns') => stream of R with the olds, each present, Absent, and then the news of their types
+IsLine b.Keep w L = (xs : List Label) × AreWords w (codes "columns") xs × OfKeep xs L
+IsLine b.Drop w L = (xs : List Label) × AreWords w (codes "columns") xs × OfDrop xs L
 IsLine b.Rename w L =
-    (olds : List Label) × (news : List Label) × AreNames w olds news × (r : GroundRow) × HasAll r olds
-    × (L ≡ from_tables r (codes "columns" ∷ []) [] [] (g_stream (named olds news r (without olds r))))
+    (g : given.LabelWords) × (words_at w (codes "columns") ≡ Some g) × ((are_names g.words g.news ≡ true) × OfRename g.words g.news L)
 -- (tables=<-: stream of R[x: C], column'=x, as'=y) => stream of R{y: C}
 IsLine b.Duplicate w L =
     (x : Label) × IsWord w (codes "column") x
@@ -189,10 +224,8 @@ IsLine b.Set w L =
 IsLine b.Fill w L =
     (x : Label) × IsWordOr w (codes "column") (codes "_value") x
     × ((r : GroundRow) × (c : Ground) × IsKind c × Has r x c × (L ≡ from_tables r (codes "column" ∷ []) ((codes "value", c) ∷ []) [] (g_stream r)))
--- (tables=<-: stream of R, columns'=["_value"], desc: bool) => stream of R, each column present
-IsLine b.Sort w L =
-    (xs : List Label) × AreWordsOr w (codes "columns") (codes "_value" ∷ []) xs × (r : GroundRow) × HasAll r xs
-    × (L ≡ from_tables r (codes "columns" ∷ []) [] ((codes "desc", g_bool) ∷ []) (g_stream r))
+-- columns'=["_value"]
+IsLine b.Sort w L = (xs : List Label) × AreWordsOr w (codes "columns") (codes "_value" ∷ []) xs × OfSort xs L
 IsLine b.Limit w L = OfPart L
 IsLine b.Tail w L = OfPart L
 IsLine b.Difference w L = OfSteps w L
@@ -203,23 +236,20 @@ IsLine b.Elapsed w L =
     × ((y : Label) × IsWordOr w (codes "columnName") (codes "elapsed") y
     × ((r : GroundRow) × Has r x g_time
     × (L ≡ from_tables r (codes "timeColumn" ∷ codes "columnName" ∷ []) [] ((codes "unit", g_span) ∷ []) (g_stream (put y g_int r)))))
--- (tables=<-: stream of R[z: C], rowKey'=xs, columnKey'=ys, valueColumn'=z) => stream of the fields xs, each present, and C
--- elsewhere; each of ys is a string, and no label is in two of the three
+-- no label is in two of the three
 IsLine b.Pivot w L =
-    (xs : List Label) × AreWords w (codes "rowKey") xs × (ys : List Label) × AreWords w (codes "columnKey") ys
-    × (z : Label) × IsWord w (codes "valueColumn") z × Apart xs ys × Apart (z ∷ []) xs × Apart (z ∷ []) ys
-    × (r : GroundRow) × HasAll r xs × EachIs r ys g_text × (c : Ground) × IsKind c × Has r z c
-    × (L ≡ from_tables r (codes "rowKey" ∷ codes "columnKey" ∷ codes "valueColumn" ∷ []) [] [] (g_stream (kept xs r (g_is c))))
+    (xs : List Label) × AreWords w (codes "rowKey") xs
+    × ((ys : List Label) × AreWords w (codes "columnKey") ys
+    × ((z : Label) × IsWord w (codes "valueColumn") z
+    × ((are_apart xs ys z ≡ true) × OfPivot xs ys z L)))
 -- joins
 
 IsLine b.JoinInner w L = OfSides L
 IsLine b.JoinLeft w L = OfSides L
 IsLine b.JoinRight w L = OfSides L
 IsLine b.JoinFull w L = OfSides L
--- (left=<-: stream of R[_time: time], right: stream of S[_time: time], as: (l: R, r: S) => Q, method'="inner") => stream of Q
-IsLine b.JoinTime w L =
-    IsMethod w × (r : GroundRow) × Has r (codes "_time") g_time × (s : GroundRow) × Has s (codes "_time") g_time × (q : GroundRow)
-    × (L ≡ piped (codes "left") r (codes "method" ∷ []) ((codes "right", g_stream s) ∷ (codes "as", of_rows r s (g_rec q)) ∷ []) [] (g_stream q))
+-- method'="inner"
+IsLine b.JoinTime w L = IsMethod w × OfTimes L
 -- scalars
 
 IsLine b.True w L = L ≡ value g_bool

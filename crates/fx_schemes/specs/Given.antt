@@ -1,7 +1,9 @@
 -- The words that a call gives at its label arguments.
-use Rattle.std.specs.Prelude.{◌≡◌, List, [], ◌∷◌, Option, None, Some, if◌then◌else◌}
+use Rattle.std.specs.Prelude.{◌≡◌, ℕ, Bool, false, List, [], ◌∷◌, Option, None, Some, map, if◌then◌else◌}
+use Rattle.std.specs.Borrow.{Bor}
 use Rattle.fx_base.specs.Text.{same_text}
 use Rattle.fx_types.specs.Term.{Label}
+use Rattle.fx_types.specs.Ground.{listed}
 use Rattle.fx_schemes.specs.declared.given.LabelWords as given
 
 abbrev pub Given : Type 0
@@ -41,8 +43,20 @@ IsWord w x a = text_at w x None ≡ Some a
 abbrev pub IsWordOr : Given → Label → Label → Label → Type 0
 IsWordOr w x default a = text_at w x (Some default) ≡ Some a
 
+abbrev pub among : Option Label → List Label → Bool
+among None ms = false
+among (Some m) ms = listed m ms
+
+-- the word at the label, or the default, is one of these
+abbrev pub is_one_of : Given → Label → Label → List Label → Bool
+is_one_of w x default ms = among (text_at w x (Some default)) ms
+
 abbrev pub AreWords : Given → Label → List Label → Type 0
 AreWords w x xs = list_at w x None ≡ Some xs
 
 abbrev pub AreWordsOr : Given → Label → List Label → List Label → Type 0
 AreWordsOr w x default xs = list_at w x (Some default) ≡ Some xs
+
+-- texts that code lends
+abbrev pub texts_of : List (Bor (List ℕ)) → List Label
+texts_of xs = map (λ x. x.now) xs

@@ -1,7 +1,7 @@
 -- How code describes lines: by simple types, and rows whose labels may be words of the call.
-use Rattle.std.specs.Prelude.{ℕ, true, false, List, [], ◌∷◌, ◌++◌, Option, None, Some, map, codes}
+use Rattle.std.specs.Prelude.{◌+◌, ℕ, true, false, List, [], ◌∷◌, ◌++◌, Option, None, Some, map, codes}
 use Rattle.std.specs.Borrow.{Bor}
-use Rattle.fx_types.specs.Term.{Label, Term, bool, int, text, time, span, type_variable, array, fun, stream, Labels, no_labels, no_pipe, by_pipe, Field, absent, is, Fields, default, row_variable}
+use Rattle.fx_types.specs.Term.{Label, Term, bool, int, text, time, span, type_variable, array, fun, rec, stream, Labels, no_labels, more_labels, no_pipe, by_pipe, Field, absent, is, Fields, no_fields, default, row_variable}
 use Rattle.fx_types.specs.Shape.{OfField, OfLabel, labels_of, fields_of}
 use Rattle.fx_value.specs.declared.scalar.Kind.{Kind}
 use Rattle.fx_value.specs.declared.scalar.Kind.TheVariants as kind
@@ -14,7 +14,7 @@ use Rattle.fx_schemes.specs.declared.plan.Variables as plans
 use Rattle.fx_schemes.specs.declared.plan.Plan as plan
 use Rattle.fx_schemes.specs.declared.plan.At as ats
 use Rattle.fx_schemes.specs.declared.plan.At.TheVariants as at
-use Rattle.fx_schemes.specs.Given.{Given, text_at}
+use Rattle.fx_schemes.specs.Given.{Given, text_at, texts_of}
 use Rattle.fx_schemes.specs.Scheme.{Scheme}
 
 abbrev pub simple_term : simples.Simple → Term
@@ -70,8 +70,35 @@ fields_in cs = fields_of (map entry_of cs)
 abbrev pub labels_in : List Param → Labels
 labels_in ps = labels_of (map param_of ps)
 
-abbrev pub texts_of : List (Bor (List ℕ)) → List Label
-texts_of xs = map (λ x. x.now) xs
+abbrev pub labelled : Label → Term → OfLabel
+labelled x t = record { label = x; type = t }
+
+abbrev pub record_of : ℕ → Term
+record_of n = rec no_fields (row_variable n)
+
+abbrev pub row_function : ℕ → Term → Term
+row_function n t = fun (more_labels (codes "r") (record_of n) no_labels) no_pipe t
+
+abbrev pub step_function : Term
+step_function = fun (labels_of (labelled (codes "r") (record_of 0) ∷ labelled (codes "accumulator") (record_of 1) ∷ [])) no_pipe (record_of 1)
+
+abbrev pub side_of : List Cell → ℕ → Term
+side_of cs n = rec (fields_in cs) (row_variable n)
+
+abbrev pub sides_function : List Cell → Term → Term
+sides_function cs t = fun (labels_of (labelled (codes "l") (side_of cs 0) ∷ labelled (codes "r") (side_of cs 1) ∷ [])) no_pipe t
+
+-- the columns of these labels, each of a type variable of its own
+abbrev pub columns_from : ℕ → List Label → List Cell
+columns_from n [] = []
+columns_from n (x ∷ xs) = (x, Some (simple.Var n)) ∷ columns_from (n + 1) xs
+
+-- the labels without a column
+abbrev pub absents : List Label → List Cell
+absents xs = map (λ x. (x, None)) xs
+
+abbrev pub all_texts : List Label → List Cell
+all_texts ys = map (λ y. (y, Some simple.Text)) ys
 
 -- what code makes of these, as plain data
 
@@ -127,3 +154,9 @@ both_places p _ _ = None
 
 abbrev pub transformed : Given → plan.Plan → List (ats.At × Option simples.Simple) → List (ats.At × Option simples.Simple) → Option Scheme
 transformed w p asked made = both_places p (places_of w asked) (places_of w made)
+
+abbrev pub stored_scheme : simples.Simple → Scheme
+stored_scheme k =
+    call_scheme (labels_in ((codes "bucket", simple.Text) ∷ []))
+    (stream (fields_in ((codes "_measurement", Some simple.Text) ∷ (codes "_field", Some simple.Text) ∷ (codes "_time", Some simple.Time) ∷ (codes "_value", Some k) ∷ [])) (default (is text)))
+    (record { count = 0; bound = bound.Free })

@@ -2,7 +2,7 @@
 ghost use Rattle.std.specs.Prelude.{◌≡◌, ◌++◌, map, option_map, IfOk};
 ghost use Rattle.std.specs.Option.{option_copied};
 ghost use Rattle.fx_types.specs.Shape.{term, label_term, labels_of};
-ghost use Rattle.fx_schemes.specs.Plan.{cells_of, params_of, texts_of, fields_in, labels_in, value_scheme, call_scheme, scalar_scheme, piped_scheme, over_scheme, closed_scheme, place_of, places_of, transformed};
+ghost use Rattle.fx_schemes.specs.Plan.{cells_of, params_of, fields_in, labels_in, value_scheme, call_scheme, scalar_scheme, piped_scheme, over_scheme, closed_scheme, place_of, places_of, transformed};
 ghost use Rattle.fx_schemes.specs.Scheme.{shown};
 
 use crate::builtin_type::BuiltinType;

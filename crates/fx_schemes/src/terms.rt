@@ -1,8 +1,8 @@
 //! Terms of rows, streams and functions.
-ghost use Rattle.std.specs.Prelude.{◌≡◌, [], map, option_map, IfOk};
-ghost use Rattle.fx_types.specs.Term.{fun, rec, stream, default, no_fields, row_variable};
+ghost use Rattle.std.specs.Prelude.{◌≡◌, [], ◌∷◌, ◌++◌, map, option_map, IfOk};
+ghost use Rattle.fx_types.specs.Term.{fun, rec, stream, default, no_pipe, row_variable};
 ghost use Rattle.fx_types.specs.Shape.{term, entry_term, label_term, labels_of, pipe_of};
-ghost use Rattle.fx_schemes.specs.Plan.{cell_field, cells_of, entry_of, fields_in, params_of, param_of};
+ghost use Rattle.fx_schemes.specs.Plan.{cell_field, cells_of, entry_of, fields_in, params_of, param_of, labelled, row_function};
 
 use crate::simple::{Simple, cell_ty, simple_ty};
 use fx_base::{Boxed, List, Memory, Text};
@@ -59,12 +59,16 @@ pub(crate) fn stream_else(
     Ok(Ty::Stream(Boxed::new(alloc, row)?))
 }
 
-/// The record of the row of a variable.
-pub(crate) fn record_over(alloc: Global, row: u32) -> Result<Ty, Memory>
-    ensures { IfOk result (λ t. term t ≡ rec no_fields (row_variable row)) }
+/// The record of the row of a variable, with these cells in place of what it has at their labels.
+pub(crate) fn record_over(
+    alloc: Global,
+    cells: &[(&str, Option<Simple>)],
+    row: u32,
+) -> Result<Ty, Memory>
+    ensures { IfOk result (λ t. term t ≡ rec (fields_in (cells_of cells.now)) (row_variable row)) }
 {
     let row = RowTy {
-        fields: List::empty(alloc),
+        fields: fields(alloc, cells)?,
         rest: Rest::Var(row),
     };
     Ok(Ty::Rec(Boxed::new(alloc, row)?))
@@ -86,7 +90,7 @@ pub(crate) fn params(alloc: Global, params: &[(&str, Simple)]) -> Result<List<La
 
 /// The parameter of this label and type.
 pub(crate) fn param(alloc: Global, label: &str, ty: Ty) -> Result<LabelTy, Memory>
-    ensures { IfOk result (λ l. label_term l ≡ record { label = label.now; type = term ty }) }
+    ensures { IfOk result (λ l. label_term l ≡ labelled label.now (term ty)) }
 {
     Ok(LabelTy {
         label: Text::of(alloc, label)?,
@@ -120,4 +124,50 @@ pub(crate) fn texts(alloc: Global, labels: &[&str]) -> Result<List<Text>, Memory
         texts.push(Text::of(alloc, label)?)?;
     }
     Ok(texts)
+}
+
+/// A list of this one parameter.
+pub(crate) fn one_param(alloc: Global, label: &str, ty: Ty) -> Result<List<LabelTy>, Memory>
+    ensures { IfOk result (λ ls. map label_term ls ≡ labelled label.now (term ty) ∷ []) }
+{
+    let mut list = List::empty(alloc);
+    list.push(param(alloc, label, ty)?)?;
+    Ok(list)
+}
+
+/// The parameters and this one after them.
+pub(crate) fn and_param(
+    alloc: Global,
+    params: List<LabelTy>,
+    label: &str,
+    ty: Ty,
+) -> Result<List<LabelTy>, Memory>
+    ensures { IfOk result (λ ls. map label_term ls ≡ map label_term params ++ labelled label.now (term ty) ∷ []) }
+{
+    let mut list = params;
+    list.push(param(alloc, label, ty)?)?;
+    Ok(list)
+}
+
+/// The function of the row of a variable.
+pub(crate) fn of_row(alloc: Global, row: u32, gives: Ty) -> Result<Ty, Memory>
+    ensures { IfOk result (λ t. term t ≡ row_function row (term gives)) }
+{
+    let required = one_param(alloc, "r", record_over(alloc, &[], row)?)?;
+    function(alloc, required, None, gives)
+}
+
+/// The function of two parameters.
+pub(crate) fn of_two(
+    alloc: Global,
+    first: LabelTy,
+    second: LabelTy,
+    gives: Ty,
+) -> Result<Ty, Memory>
+    ensures { IfOk result (λ t. term t ≡ fun (labels_of (label_term first ∷ label_term second ∷ [])) no_pipe (term gives)) }
+{
+    let mut required = List::empty(alloc);
+    required.push(first)?;
+    required.push(second)?;
+    function(alloc, required, None, gives)
 }

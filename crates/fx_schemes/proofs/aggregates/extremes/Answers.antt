@@ -1,0 +1,6 @@
+use Rattle.fx_schemes.proofs.WindowLaws.{extremes_law}
+use Rattle.fx_schemes.proofs.SchemeLaws.{by_scheme}
+use Rattle.fx_schemes.proofs.aggregates.extremes.Goals as goal
+
+pub returns : goal.returns
+returns c = by_scheme _ c.over.result _ c.over.ensures extremes_law

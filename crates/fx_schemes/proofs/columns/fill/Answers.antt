@@ -1,0 +1,11 @@
+use Rattle.std.proofs.Common.{refl, Some}
+use Rattle.std.specs.Prelude.{codes}
+use Rattle.fx_schemes.specs.Builtins.{IsLine}
+use Rattle.fx_schemes.proofs.ChangeLaws.{fills, fills_law}
+use Rattle.fx_schemes.proofs.SchemeLaws.{by_word}
+use Rattle.fx_schemes.proofs.columns.fill.Goals as goal
+
+pub returns : goal.returns
+unfolding IsLine
+returns c =
+    by_word c.transform.result _ c.args.given.now (codes "column") (Some (codes "_value")) _ fills fills_law c.transform.ensures (λ e. rw e refl) (λ x e. rw e refl)

@@ -1,0 +1,146 @@
+//! What keeps, makes and collects rows.
+ghost use Rattle.std.specs.Prelude.{◌≡◌, IfOk, [], option_map};
+ghost use Rattle.fx_types.specs.Shape.{term};
+ghost use Rattle.fx_schemes.specs.Plan.{step_function};
+ghost use Rattle.fx_schemes.specs.declared.list.Builtin.TheVariants as builtin;
+ghost use Rattle.fx_schemes.specs.Builtins.{IsLine, OfRows};
+ghost use Rattle.fx_schemes.specs.Scheme.{Says, IsSchemeOf, shown};
+
+use crate::builtin_type::BuiltinType;
+use crate::given::{LabelWords, is_one_of};
+use crate::plan::{Plan, Variables, over, piped};
+use crate::simple::{Bound, Simple};
+use crate::terms::{and_param, of_row, of_two, one_param, param, record_over, stream_over};
+use fx_base::{List, Memory};
+use fx_types::Ty;
+use std::alloc::Global;
+
+const TIME: (&str, Option<Simple>) = ("_time", Some(Simple::Time));
+
+const START: (&str, Option<Simple>) = ("_start", Some(Simple::Time));
+
+const STOP: (&str, Option<Simple>) = ("_stop", Some(Simple::Time));
+
+/// Label arguments, and rows alone.
+macro_rules! rows {
+    ($count:literal, $labels:expr) => {
+        Plan {
+            labels: $labels,
+            required: &[],
+            optional: &[],
+            variables: Variables {
+                count: $count,
+                bound: Bound::Free,
+            },
+        }
+    };
+}
+
+/// `range`.
+pub(crate) fn range(alloc: Global) -> Result<BuiltinType, Memory>
+    ensures { IfOk result (λ t. IsSchemeOf (IsLine builtin.Range []) (shown t)) }
+{
+    let plan = Plan {
+        labels: &[],
+        required: &[("start", Simple::Var(0))],
+        optional: &[("stop", Simple::Var(1))],
+        variables: Variables {
+            count: 2,
+            bound: Bound::Moments,
+        },
+    };
+    over(alloc, &plan, &[TIME], &[START, STOP])
+}
+
+/// `window`.
+pub(crate) fn window(alloc: Global) -> Result<BuiltinType, Memory>
+    ensures { IfOk result (λ t. IsSchemeOf (IsLine builtin.Window []) (shown t)) }
+{
+    let plan = Plan {
+        labels: &[],
+        required: &[("every", Simple::Span)],
+        optional: &[("period", Simple::Span)],
+        variables: Variables {
+            count: 1,
+            bound: Bound::Free,
+        },
+    };
+    over(alloc, &plan, &[TIME, START, STOP], &[])
+}
+
+/// `filter`.
+pub(crate) fn filter(alloc: Global, given: &List<LabelWords>) -> Result<Option<BuiltinType>, Memory>
+    ensures { IfOk result (λ o. Says (IsLine builtin.Filter given.now) (option_map shown o)) }
+{
+    if !is_one_of(given, "onEmpty", "drop", &["drop"]) {
+        return Ok(None);
+    }
+    Ok(Some(filter_dropping(alloc)?))
+}
+
+/// `filter` that drops tables without rows.
+fn filter_dropping(alloc: Global) -> Result<BuiltinType, Memory>
+    ensures { IfOk result (λ t. IsSchemeOf OfRows (shown t)) }
+{
+    let input = stream_over(alloc, &[], 0)?;
+    let test = of_row(alloc, 0, Ty::Bool)?;
+    let required = one_param(alloc, "fn", test)?;
+    let gives = stream_over(alloc, &[], 0)?;
+    piped(
+        alloc,
+        "tables",
+        input,
+        required,
+        gives,
+        &rows!(1, &["onEmpty"]),
+    )
+}
+
+/// `map`.
+pub(crate) fn map(alloc: Global) -> Result<BuiltinType, Memory>
+    ensures { IfOk result (λ t. IsSchemeOf (IsLine builtin.Map []) (shown t)) }
+{
+    let input = stream_over(alloc, &[], 0)?;
+    let change = of_row(alloc, 0, record_over(alloc, &[], 1)?)?;
+    let required = one_param(alloc, "fn", change)?;
+    let gives = stream_over(alloc, &[], 1)?;
+    piped(alloc, "tables", input, required, gives, &rows!(2, &[]))
+}
+
+/// `reduce`.
+pub(crate) fn reduce(alloc: Global) -> Result<BuiltinType, Memory>
+    ensures { IfOk result (λ t. IsSchemeOf (IsLine builtin.Reduce []) (shown t)) }
+{
+    let input = stream_over(alloc, &[], 0)?;
+    let identity = one_param(alloc, "identity", record_over(alloc, &[], 1)?)?;
+    let step = step(alloc)?;
+    let required = and_param(alloc, identity, "fn", step)?;
+    let gives = stream_over(alloc, &[], 1)?;
+    piped(alloc, "tables", input, required, gives, &rows!(2, &[]))
+}
+
+/// The function of a row and what was made so far.
+fn step(alloc: Global) -> Result<Ty, Memory>
+    ensures { IfOk result (λ t. term t ≡ step_function) }
+{
+    let row = param(alloc, "r", record_over(alloc, &[], 0)?)?;
+    let before = param(alloc, "accumulator", record_over(alloc, &[], 1)?)?;
+    of_two(alloc, row, before, record_over(alloc, &[], 1)?)
+}
+
+/// `yield`.
+pub(crate) fn yielded(alloc: Global) -> Result<BuiltinType, Memory>
+    ensures { IfOk result (λ t. IsSchemeOf (IsLine builtin.Yield []) (shown t)) }
+{
+    let plan = Plan {
+        labels: &[],
+        required: &[],
+        optional: &[("name", Simple::Text)],
+        variables: Variables {
+            count: 1,
+            bound: Bound::Free,
+        },
+    };
+    let input = stream_over(alloc, &[], 0)?;
+    piped(alloc, "tables", input, List::empty(alloc), Ty::Done, &plan)
+}
