@@ -1,5 +1,6 @@
 pub mod ChangeLaws
 pub mod ColumnLaws
+pub mod FormLaws
 pub mod JoinLaws
 pub mod LineLaws
 pub mod ListLaws

@@ -14,7 +14,7 @@ use Rattle.fx_schemes.specs.Line.{Line, replaced, HasAll, kept, without, from_ta
 use Rattle.fx_schemes.specs.Builtins.{OfGroup, OfSort, OfKeep, OfDrop}
 use Rattle.fx_schemes.specs.Plan.{Cell, Param, cell_field, fields_in, columns_from, absents}
 use Rattle.fx_schemes.specs.Scheme.{Scheme, IsSchemeOf, below_fields}
-use Rattle.fx_schemes.proofs.RowLaws.{chosen, passed, same_row, put_same}
+use Rattle.fx_schemes.proofs.RowLaws.{chosen, passed, same_row, put_same, listed_also}
 use Rattle.fx_schemes.proofs.SchemeLaws.{built, solution, over_tables, closed_tables}
 use Rattle.fx_schemes.proofs.Sizes.{tidy_fields}
 
@@ -65,10 +65,6 @@ agreed c xs r h = columns_agree (list_solution c xs r) xs 1 r (λ i. ap (types_a
 listed_more : (b c : Bool) → (if b then true else c) ≡ true → b ≡ false → c ≡ true
 listed_more true c e f = absurd (true≢false f)
 listed_more false c e f = e
-
-listed_also : (b c : Bool) → c ≡ true → (if b then true else c) ≡ true
-listed_also true c e = refl
-listed_also false c e = e
 
 pub present_at : (s : Solution) (xs : List Label) (k : ℕ) (r : GroundRow) (l : Label) → listed l xs ≡ true
     → (t : Ground) × (celled s (columns_from k xs) r l ≡ g_is t)

@@ -1,9 +1,8 @@
 -- `rename`: its scheme, and its lines.
 use Rattle.std.proofs.Common.{◌≡◌, refl, sym, ap, ◌∙◌, ℕ, ◌+◌, ◌==◌, Bool, true, false, ◌&&◌, List, [], ◌∷◌, ◌++◌, length, lit≤, arith}
-use Rattle.std.specs.Prelude.{codes, if◌then◌else◌}
+use Rattle.std.specs.Prelude.{codes}
 use Rattle.std.specs.Cmp.Lexicographic.{nat_list_eq_equiv}
 use Rattle.std.proofs.lemmas.Bool.{and_parts, eqb-true}
-use mathlib.Core.Bool.{true≢false}
 use Rattle.fx_base.specs.Text.{same_text}
 use Rattle.fx_types.specs.Term.{Label}
 use Rattle.fx_types.specs.Ground.{GroundField, GroundRow, g_int, g_is, g_stream, is_plain, listed}
@@ -14,7 +13,7 @@ use Rattle.fx_schemes.specs.Builtins.{OfRename, differ, are_names}
 use Rattle.fx_schemes.specs.Plan.{Cell, columns_from, absents, fields_in, cell_field}
 use Rattle.fx_schemes.specs.Scheme.{Scheme, IsSchemeOf, below_field, below_fields}
 use Rattle.fx_schemes.proofs.ListLaws.{celled, AllAgree, cells_same, list_solution, agreed, all_present, cleared_is, first_below, columns_fit, columns_below, columns_tidy, absents_below, absents_tidy, both_true}
-use Rattle.fx_schemes.proofs.RowLaws.{passed, has_put}
+use Rattle.fx_schemes.proofs.RowLaws.{passed, has_put, first_not, more_not, not_first, not_more}
 use Rattle.fx_schemes.proofs.SchemeLaws.{built, over_tables}
 use Rattle.fx_schemes.proofs.Sizes.{tidy_fields}
 
@@ -39,22 +38,6 @@ tidy_append (c ∷ a) b e h =
     both_true (plain_cell c) (tidy_fields (fields_in (a ++ b))) parts.0 (tidy_append a b parts.1 h)
 
 -- columns of labels that differ
-
-first_not : (c b : Bool) → (if c then true else b) ≡ false → c ≡ false
-first_not true b e = e
-first_not false b e = refl
-
-more_not : (c b : Bool) → (if c then true else b) ≡ false → b ≡ false
-more_not true b e = absurd (true≢false e)
-more_not false b e = e
-
-not_first : (c b : Bool) → (if c then false else b) ≡ true → c ≡ false
-not_first true b e = absurd (true≢false (sym e))
-not_first false b e = refl
-
-not_more : (c b : Bool) → (if c then false else b) ≡ true → b ≡ true
-not_more true b e = absurd (true≢false (sym e))
-not_more false b e = e
 
 agree_off : (s : Solution) (xs : List Label) (k : ℕ) (x : Label) (f : GroundField) (r : GroundRow) → listed x xs ≡ false
     → AllAgree s (columns_from k xs) r → AllAgree s (columns_from k xs) (replaced x f r)

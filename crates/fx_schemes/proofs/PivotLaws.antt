@@ -1,6 +1,6 @@
 -- `pivot`: its scheme, and its lines.
 use Rattle.std.proofs.Common.{◌≡◌, refl, sym, ap, subst, ◌∙◌, ℕ, ◌+◌, Bool, true, false, ◌&&◌, List, [], ◌∷◌, ◌++◌, length, Some, inl, inr, lit≤}
-use Rattle.std.specs.Prelude.{codes, not, if◌then◌else◌}
+use Rattle.std.specs.Prelude.{codes, not}
 use Rattle.std.proofs.lemmas.Bool.{and_parts}
 use mathlib.Core.Bool.{true≢false}
 use Rattle.fx_base.specs.Text.{same_text}
@@ -16,25 +16,9 @@ use Rattle.fx_schemes.specs.Plan.{Cell, columns_from, all_texts, fields_in}
 use Rattle.fx_schemes.specs.Scheme.{Scheme, IsSchemeOf, below_fields}
 use Rattle.fx_schemes.proofs.ListLaws.{celled, AllAgree, cells_same, list_solution, agreed, present_at, has_all, kept_is, first_below, columns_fit, columns_tidy}
 use Rattle.fx_schemes.proofs.NameLaws.{celled_append, below_append, tidy_append}
-use Rattle.fx_schemes.proofs.RowLaws.{chosen, passed, has_put}
+use Rattle.fx_schemes.proofs.RowLaws.{chosen, passed, has_put, first_not, more_not, not_first, not_more, listed_also}
 use Rattle.fx_schemes.proofs.SchemeLaws.{built, closed_tables}
 use Rattle.fx_schemes.proofs.Sizes.{tidy_fields}
-
-first_not : (c b : Bool) → (if c then true else b) ≡ false → c ≡ false
-first_not true b e = e
-first_not false b e = refl
-
-more_not : (c b : Bool) → (if c then true else b) ≡ false → b ≡ false
-more_not true b e = absurd (true≢false e)
-more_not false b e = e
-
-not_first : (c b : Bool) → (if c then false else b) ≡ true → c ≡ false
-not_first true b e = absurd (true≢false (sym e))
-not_first false b e = refl
-
-not_more : (c b : Bool) → (if c then false else b) ≡ true → b ≡ true
-not_more true b e = absurd (true≢false (sym e))
-not_more false b e = e
 
 is_false : (b : Bool) → not b ≡ true → b ≡ false
 is_false true e = absurd (true≢false (sym e))
@@ -71,10 +55,6 @@ at_texts s (y ∷ ys) r l e =
     (λ q. chosen (same_text l y) (g_is g_text) (celled s (all_texts ys) r l) q)
     (λ q. passed (same_text l y) (g_is g_text) (celled s (all_texts ys) r l) q
     ∙ at_texts s ys r l (sym (passed (same_text l y) true (listed l ys) q) ∙ e))
-
-listed_also : (b c : Bool) → c ≡ true → (if b then true else c) ≡ true
-listed_also true c e = refl
-listed_also false c e = e
 
 each_is : (r : GroundRow) (ys : List Label) (t : Ground) → ((l : Label) → listed l ys ≡ true → r l ≡ g_is t) → EachIs r ys t
 each_is r [] t h = tt

@@ -5,7 +5,7 @@ use Rattle.fx_types.specs.Term.{Label, Term, fun, stream, by_pipe, row_variable,
 use Rattle.fx_types.specs.Shape.{OfLabel, labels_of}
 use Rattle.fx_types.specs.Ground.{Ground, GroundRow, g_int, g_absent}
 use Rattle.fx_types.specs.Instance.{Solution, ground, plainest}
-use Rattle.fx_types.specs.Size.{AtMost}
+use Rattle.fx_types.specs.Size.{IsType}
 use Rattle.fx_schemes.specs.declared.builtin_type.BuiltinType as types
 use Rattle.fx_schemes.specs.Given.{Given, text_at}
 use Rattle.fx_schemes.specs.Line.{Line}
@@ -14,7 +14,8 @@ use Rattle.fx_schemes.specs.declared.plan.Variables as plans
 use Rattle.fx_schemes.specs.declared.simple.Bound.TheVariants as bound
 use Rattle.fx_schemes.specs.Plan.{labelled, cell_field, call_scheme, Cell, Param, labels_in, fields_in, bounds_of}
 use Rattle.fx_schemes.specs.declared.simple.Bound as kinds
-use Rattle.fx_schemes.proofs.Sizes.{tidy, most, small}
+use Rattle.fx_schemes.proofs.FormLaws.{plain_type}
+use Rattle.fx_schemes.proofs.Sizes.{tidy, most}
 use Rattle.fx_schemes.specs.Scheme.{Scheme, shown, instance, Keeps, IsInstance, all_below, IsSchemeOf, Says}
 
 -- by a solution that keeps the bounds, and a term whose plainest instance is the type that it gives
@@ -24,7 +25,7 @@ pub built_by : (X : Scheme) (D : Line → Type 0) → all_below X ≡ true → (
 built_by X D numbered s keeps t tidied few same lines = record {
   numbered = numbered;
   lines = lines;
-  some = (instance s X, (lines (instance s X)).0 (s, keeps, refl), subst (λ g. AtMost g 4096) same (small t tidied few));
+  some = (instance s X, (lines (instance s X)).0 (s, keeps, refl), subst IsType same (plain_type t tidied few));
 }
 
 pub built : (X : Scheme) (D : Line → Type 0) → all_below X ≡ true → tidy X.type ≡ true → most X.type ≤ 4096 → Keeps plainest X.kinds

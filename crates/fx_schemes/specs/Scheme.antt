@@ -4,7 +4,7 @@ use Rattle.fx_types.specs.Term.{Label, Term, type_variable, array, fun, rec, str
 use Rattle.fx_types.specs.Ground.{Ground, g_bool, g_int, g_text, g_time, g_span}
 use Rattle.fx_types.specs.Instance.{Solution, ground, ground_labels}
 use Rattle.fx_types.specs.Shape.{term, label_term, labels_of}
-use Rattle.fx_types.specs.Size.{AtMost}
+use Rattle.fx_types.specs.Size.{IsType}
 use Rattle.fx_value.specs.declared.scalar.Kind.{Kind}
 use Rattle.fx_value.specs.declared.scalar.Kind.TheVariants as kind
 use Rattle.fx_schemes.specs.declared.builtin_type.BuiltinType as types
@@ -83,11 +83,11 @@ below_kinds n (k ∷ ks) = nat_lt k.var n && below_kinds n ks
 abbrev pub all_below : Scheme → Bool
 all_below x = below x.vars x.type && (below_labels x.vars x.optional && below_kinds x.vars x.kinds)
 
--- the instances of the scheme are exactly the lines, and one of these has no more nodes than a type may have
+-- the instances of the scheme are exactly the lines, and one of these is a type
 pub record IsSchemeOf (D : Line → Type 0) (x : Scheme) : Type 0 where
   pub numbered : all_below x ≡ true
   pub lines : (L : Line) → IsInstance x L ↔ D L
-  pub some : (L : Line) × D L × AtMost L.type 4096
+  pub some : (L : Line) × D L × IsType L.type
 
 -- None where there is no line, else a scheme of the lines
 abbrev pub Says : (Line → Type 0) → Option Scheme → Type 0
