@@ -8,34 +8,14 @@ use Rattle.fx_types.specs.Term.{Label, Term, bool, int, text, time, span, patter
 use Rattle.fx_types.specs.Ground.{GroundField, g_bool, g_int, g_text, g_time, g_span, g_pattern, g_done, g_array, g_fun, g_rec, g_stream, g_absent, g_is, is_plain, listed, IsWellFormed, IsWellFormedField}
 use Rattle.fx_types.specs.Instance.{ground, ground_field, ground_fields, ground_labels, ground_pipe, ground_tail, plainest}
 use Rattle.fx_types.specs.Size.{IsType}
-use Rattle.fx_schemes.proofs.RowLaws.{passed, first_not, more_not}
+use Rattle.fx_types.proofs.Choices.{passed, neither}
+use Rattle.fx_types.proofs.PlainLaws.{plain_formed}
+use Rattle.fx_types.proofs.SizeLaws.{tail_field, tail_is}
 use Rattle.fx_schemes.proofs.Sizes.{tidy, tidy_labels, tidy_pipe, tidy_fields, tidy_tail, most, small}
-
-plain_formed : (g : GroundField) → is_plain g ≡ true → IsWellFormedField g
-plain_formed g_absent e = tt
-plain_formed (g_is g_bool) e = tt
-plain_formed (g_is g_int) e = tt
-plain_formed (g_is g_text) e = tt
-plain_formed (g_is g_time) e = tt
-plain_formed (g_is g_span) e = tt
-plain_formed (g_is g_pattern) e = tt
-plain_formed (g_is g_done) e = tt
-plain_formed (g_is (g_array t)) e = absurd (true≢false (sym e))
-plain_formed (g_is (g_fun r p t)) e = absurd (true≢false (sym e))
-plain_formed (g_is (g_rec r)) e = absurd (true≢false (sym e))
-plain_formed (g_is (g_stream r)) e = absurd (true≢false (sym e))
 
 -- rows of columns
 
-abbrev default_of : Tail → GroundField
-default_of (default f) = ground_field plainest f
-default_of (row_variable n) = g_absent
-
-tail_is : (r : Tail) (l : Label) → ground_tail plainest r l ≡ default_of r
-tail_is (default f) l = refl
-tail_is (row_variable n) l = refl
-
-default_plain : (r : Tail) → tidy_tail r ≡ true → is_plain (default_of r) ≡ true
+default_plain : (r : Tail) → tidy_tail r ≡ true → is_plain (tail_field r) ≡ true
 default_plain (default f) e = e
 default_plain (row_variable n) e = refl
 
@@ -44,11 +24,11 @@ names_of no_fields = []
 names_of (more_fields x f fs) = x ∷ names_of fs
 
 off_names : (fs : Fields) (r : Tail) (l : Label) → listed l (names_of fs) ≡ false
-    → ground_fields plainest fs (ground_tail plainest r) l ≡ default_of r
+    → ground_fields plainest fs (ground_tail plainest r) l ≡ tail_field r
 off_names no_fields r l e = tail_is r l
 off_names (more_fields x f fs) r l e =
-    passed (same_text l x) (ground_field plainest f) (ground_fields plainest fs (ground_tail plainest r) l) (first_not (same_text l x) (listed l (names_of fs)) e)
-    ∙ off_names fs r l (more_not (same_text l x) (listed l (names_of fs)) e)
+    passed (same_text l x) (ground_field plainest f) (ground_fields plainest fs (ground_tail plainest r) l) (neither (same_text l x) (listed l (names_of fs)) e).0
+    ∙ off_names fs r l (neither (same_text l x) (listed l (names_of fs)) e).1
 
 either_plain : (b : Bool) (g h : GroundField) → is_plain g ≡ true → is_plain h ≡ true → is_plain (if b then g else h) ≡ true
 either_plain true g h e i = e
@@ -64,14 +44,14 @@ all_plain (more_fields x f fs) r e h l =
 record_formed : (fs : Fields) (r : Tail) → (tidy_fields fs && tidy_tail r) ≡ true → IsWellFormed (ground plainest (rec fs r))
 record_formed fs r e =
     let parts = and_parts (tidy_fields fs) (tidy_tail r) e in (
-      (default_of r, default_plain r parts.1, (names_of fs, off_names fs r)),
+      (tail_field r, default_plain r parts.1, (names_of fs, off_names fs r)),
       (λ l. plain_formed (ground_fields plainest fs (ground_tail plainest r) l) (all_plain fs r parts.0 parts.1 l)),
     )
 
 stream_formed : (fs : Fields) (r : Tail) → (tidy_fields fs && tidy_tail r) ≡ true → IsWellFormed (ground plainest (stream fs r))
 stream_formed fs r e =
     let parts = and_parts (tidy_fields fs) (tidy_tail r) e in
-    ((default_of r, (names_of fs, off_names fs r)), (λ l. all_plain fs r parts.0 parts.1 l))
+    ((tail_field r, (names_of fs, off_names fs r)), (λ l. all_plain fs r parts.0 parts.1 l))
 
 -- functions
 
@@ -82,8 +62,8 @@ required_of (more_labels x t ls) = x ∷ required_of ls
 off_required : (ls : Labels) (l : Label) → listed l (required_of ls) ≡ false → ground_labels plainest ls l ≡ g_absent
 off_required no_labels l e = refl
 off_required (more_labels x t ls) l e =
-    passed (same_text l x) (g_is (ground plainest t)) (ground_labels plainest ls l) (first_not (same_text l x) (listed l (required_of ls)) e)
-    ∙ off_required ls l (more_not (same_text l x) (listed l (required_of ls)) e)
+    passed (same_text l x) (g_is (ground plainest t)) (ground_labels plainest ls l) (neither (same_text l x) (listed l (required_of ls)) e).0
+    ∙ off_required ls l (neither (same_text l x) (listed l (required_of ls)) e).1
 
 either_formed : (b : Bool) (g h : GroundField) → IsWellFormedField g → IsWellFormedField h → IsWellFormedField (if b then g else h)
 either_formed true g h e i = e

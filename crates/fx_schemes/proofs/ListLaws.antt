@@ -1,20 +1,21 @@
 -- Rows with listed columns: the schemes of what works on lists of columns, and their lines.
 use Rattle.std.proofs.Common.{◌≡◌, refl, sym, ap, ◌∙◌, ℕ, zero, suc, ◌+◌, ◌≤◌, Bool, true, false, ◌&&◌, List, [], ◌∷◌, ◌++◌, length, get_or, None, add-zero, lit≤, arith}
 use Rattle.std.specs.Prelude.{codes, if◌then◌else◌, nat_lt}
-use Rattle.std.proofs.lemmas.Bool.{lt-ltb}
+use Rattle.std.proofs.lemmas.Bool.{lt-ltb, and_from}
 use mathlib.Core.Bool.{true≢false}
 use Rattle.fx_base.specs.Text.{same_text}
 use Rattle.fx_types.specs.Term.{Label}
 use Rattle.fx_types.specs.Ground.{Ground, GroundField, GroundRow, g_bool, g_int, g_absent, g_is, g_stream, listed}
 use Rattle.fx_types.specs.Instance.{Solution, ground_field, ground_fields}
-use Rattle.fx_types.proofs.RowSums.{by_cases, same_itself}
+use Rattle.fx_types.proofs.Choices.{by_cases, chosen, passed, either_also}
+use Rattle.fx_types.proofs.RowSums.{same_itself}
 use Rattle.fx_schemes.specs.declared.simple.Simple.TheVariants as simple
 use Rattle.fx_schemes.specs.declared.simple.Bound.TheVariants as bound
 use Rattle.fx_schemes.specs.Line.{Line, replaced, HasAll, kept, without, from_tables}
 use Rattle.fx_schemes.specs.Builtins.{OfGroup, OfSort, OfKeep, OfDrop}
 use Rattle.fx_schemes.specs.Plan.{Cell, Param, cell_field, fields_in, columns_from, absents}
 use Rattle.fx_schemes.specs.Scheme.{Scheme, IsSchemeOf, below_fields}
-use Rattle.fx_schemes.proofs.RowLaws.{chosen, passed, same_row, put_same, listed_also}
+use Rattle.fx_schemes.proofs.RowLaws.{same_row, put_same}
 use Rattle.fx_schemes.proofs.SchemeLaws.{built, solution, over_tables, closed_tables}
 use Rattle.fx_schemes.proofs.Sizes.{tidy_fields}
 
@@ -79,7 +80,7 @@ pub has_all : (r : GroundRow) (ys : List Label) → ((l : Label) → listed l ys
 has_all r [] h = tt
 has_all r (y ∷ ys) h = (
   h y (chosen (same_text y y) true (listed y ys) (same_itself y)),
-  has_all r ys (λ l e. h l (listed_also (same_text l y) (listed l ys) e)),
+  has_all r ys (λ l e. h l (either_also (same_text l y) (listed l ys) e)),
 )
 
 pub all_present : (s : Solution) (xs : List Label) (k : ℕ) (r : GroundRow) → HasAll (celled s (columns_from k xs) r) xs
@@ -119,14 +120,10 @@ cleared_is s xs r = same_row (celled s (absents xs) r) (without xs r) (cleared_a
 
 -- numbers and nodes
 
-pub both_true : (b c : Bool) → b ≡ true → c ≡ true → (b && c) ≡ true
-both_true true c e h = h
-both_true false c e h = e
-
 pub columns_below : (xs : List Label) (k n : ℕ) → k + length xs ≤ n → below_fields n (fields_in (columns_from k xs)) ≡ true
 columns_below [] k n le = refl
 columns_below (x ∷ xs) k n le =
-    both_true (nat_lt k n) (below_fields n (fields_in (columns_from (k + 1) xs))) (lt-ltb k n (omega arith)) (columns_below xs (k + 1) n (omega arith))
+    and_from (nat_lt k n) (below_fields n (fields_in (columns_from (k + 1) xs))) (lt-ltb k n (omega arith)) (columns_below xs (k + 1) n (omega arith))
 
 pub columns_tidy : (xs : List Label) (k : ℕ) → tidy_fields (fields_in (columns_from k xs)) ≡ true
 columns_tidy [] k = refl

@@ -2,18 +2,19 @@
 use Rattle.std.proofs.Common.{◌≡◌, refl, sym, ap, ◌∙◌, ℕ, ◌+◌, ◌==◌, Bool, true, false, ◌&&◌, List, [], ◌∷◌, ◌++◌, length, lit≤, arith}
 use Rattle.std.specs.Prelude.{codes}
 use Rattle.std.specs.Cmp.Lexicographic.{nat_list_eq_equiv}
-use Rattle.std.proofs.lemmas.Bool.{and_parts, eqb-true}
+use Rattle.std.proofs.lemmas.Bool.{and_parts, eqb-true, and_from}
 use Rattle.fx_base.specs.Text.{same_text}
 use Rattle.fx_types.specs.Term.{Label}
 use Rattle.fx_types.specs.Ground.{GroundField, GroundRow, g_int, g_is, g_stream, is_plain, listed}
 use Rattle.fx_types.specs.Instance.{Solution, ground_field, plainest}
+use Rattle.fx_types.proofs.Choices.{passed, neither}
 use Rattle.fx_schemes.specs.declared.simple.Bound.TheVariants as bound
 use Rattle.fx_schemes.specs.Line.{Line, replaced, without, named, from_tables}
 use Rattle.fx_schemes.specs.Builtins.{OfRename, differ, are_names}
 use Rattle.fx_schemes.specs.Plan.{Cell, columns_from, absents, fields_in, cell_field}
 use Rattle.fx_schemes.specs.Scheme.{Scheme, IsSchemeOf, below_field, below_fields}
-use Rattle.fx_schemes.proofs.ListLaws.{celled, AllAgree, cells_same, list_solution, agreed, all_present, cleared_is, first_below, columns_fit, columns_below, columns_tidy, absents_below, absents_tidy, both_true}
-use Rattle.fx_schemes.proofs.RowLaws.{passed, has_put, first_not, more_not, not_first, not_more}
+use Rattle.fx_schemes.proofs.ListLaws.{celled, AllAgree, cells_same, list_solution, agreed, all_present, cleared_is, first_below, columns_fit, columns_below, columns_tidy, absents_below, absents_tidy}
+use Rattle.fx_schemes.proofs.RowLaws.{has_put, not_first, not_more}
 use Rattle.fx_schemes.proofs.SchemeLaws.{built, over_tables}
 use Rattle.fx_schemes.proofs.Sizes.{tidy_fields}
 
@@ -26,7 +27,7 @@ pub below_append : (n : ℕ) (a b : List Cell) → below_fields n (fields_in a) 
 below_append n [] b e h = h
 below_append n (c ∷ a) b e h =
     let parts = and_parts (below_field n (cell_field c.1)) (below_fields n (fields_in a)) e in
-    both_true (below_field n (cell_field c.1)) (below_fields n (fields_in (a ++ b))) parts.0 (below_append n a b parts.1 h)
+    and_from (below_field n (cell_field c.1)) (below_fields n (fields_in (a ++ b))) parts.0 (below_append n a b parts.1 h)
 
 abbrev plain_cell : Cell → Bool
 plain_cell c = is_plain (ground_field plainest (cell_field c.1))
@@ -35,7 +36,7 @@ pub tidy_append : (a b : List Cell) → tidy_fields (fields_in a) ≡ true → t
 tidy_append [] b e h = h
 tidy_append (c ∷ a) b e h =
     let parts = and_parts (plain_cell c) (tidy_fields (fields_in a)) e in
-    both_true (plain_cell c) (tidy_fields (fields_in (a ++ b))) parts.0 (tidy_append a b parts.1 h)
+    and_from (plain_cell c) (tidy_fields (fields_in (a ++ b))) parts.0 (tidy_append a b parts.1 h)
 
 -- columns of labels that differ
 
@@ -43,8 +44,8 @@ agree_off : (s : Solution) (xs : List Label) (k : ℕ) (x : Label) (f : GroundFi
     → AllAgree s (columns_from k xs) r → AllAgree s (columns_from k xs) (replaced x f r)
 agree_off s [] k x f r e h = tt
 agree_off s (y ∷ ys) k x f r e h = (
-  passed (same_text y x) f (r y) (nat_list_eq_equiv.symm y x ∙ first_not (same_text x y) (listed x ys) e) ∙ h.0,
-  agree_off s ys (k + 1) x f r (more_not (same_text x y) (listed x ys) e) h.1,
+  passed (same_text y x) f (r y) (nat_list_eq_equiv.symm y x ∙ (neither (same_text x y) (listed x ys) e).0) ∙ h.0,
+  agree_off s ys (k + 1) x f r (neither (same_text x y) (listed x ys) e).1 h.1,
 )
 
 self_agree : (s : Solution) (xs : List Label) (k : ℕ) (r : GroundRow) → differ xs ≡ true → AllAgree s (columns_from k xs) (celled s (columns_from k xs) r)

@@ -1,13 +1,14 @@
 -- `pivot`: its scheme, and its lines.
 use Rattle.std.proofs.Common.{◌≡◌, refl, sym, ap, subst, ◌∙◌, ℕ, ◌+◌, Bool, true, false, ◌&&◌, List, [], ◌∷◌, ◌++◌, length, Some, inl, inr, lit≤}
 use Rattle.std.specs.Prelude.{codes, not}
-use Rattle.std.proofs.lemmas.Bool.{and_parts}
+use Rattle.std.proofs.lemmas.Bool.{and_parts, not-true}
 use mathlib.Core.Bool.{true≢false}
 use Rattle.fx_base.specs.Text.{same_text}
 use Rattle.fx_types.specs.Term.{Label}
 use Rattle.fx_types.specs.Ground.{Ground, GroundRow, g_text, g_is, g_stream, listed}
 use Rattle.fx_types.specs.Instance.{Solution}
-use Rattle.fx_types.proofs.RowSums.{by_cases, same_is, same_itself}
+use Rattle.fx_types.proofs.Choices.{by_cases, chosen, passed, neither, either_also, never}
+use Rattle.fx_types.proofs.RowSums.{same_is, same_itself}
 use Rattle.fx_schemes.specs.declared.simple.Simple.TheVariants as simple
 use Rattle.fx_schemes.specs.declared.simple.Bound.TheVariants as bound
 use Rattle.fx_schemes.specs.Line.{Line, put, EachIs, kept, from_tables}
@@ -16,16 +17,9 @@ use Rattle.fx_schemes.specs.Plan.{Cell, columns_from, all_texts, fields_in}
 use Rattle.fx_schemes.specs.Scheme.{Scheme, IsSchemeOf, below_fields}
 use Rattle.fx_schemes.proofs.ListLaws.{celled, AllAgree, cells_same, list_solution, agreed, present_at, has_all, kept_is, first_below, columns_fit, columns_tidy}
 use Rattle.fx_schemes.proofs.NameLaws.{celled_append, below_append, tidy_append}
-use Rattle.fx_schemes.proofs.RowLaws.{chosen, passed, has_put, first_not, more_not, not_first, not_more, listed_also}
+use Rattle.fx_schemes.proofs.RowLaws.{has_put, not_first, not_more}
 use Rattle.fx_schemes.proofs.SchemeLaws.{built, closed_tables}
 use Rattle.fx_schemes.proofs.Sizes.{tidy_fields}
-
-is_false : (b : Bool) → not b ≡ true → b ≡ false
-is_false true e = absurd (true≢false (sym e))
-is_false false e = refl
-
-clash : {A : Type 0} (b : Bool) → b ≡ true → b ≡ false → A
-clash b e f = absurd (true≢false (sym e ∙ f))
 
 -- labels
 
@@ -33,20 +27,20 @@ apart_off : (xs ys : List Label) → apart xs ys ≡ true → (l : Label) → li
 apart_off [] ys e l h = refl
 apart_off (x ∷ xs) ys e l h =
     by_cases (same_text l x)
-    (λ q. clash (listed x ys) (subst (λ z. listed z ys ≡ true) (same_is l x q) h) (not_first (listed x ys) (apart xs ys) e))
+    (λ q. never (listed x ys) (subst (λ z. listed z ys ≡ true) (same_is l x q) h) (not_first (listed x ys) (apart xs ys) e))
     (λ q. passed (same_text l x) true (listed l xs) q ∙ apart_off xs ys (not_more (listed x ys) (apart xs ys) e) l h)
 
 off_columns : (s : Solution) (xs : List Label) (k : ℕ) (r : GroundRow) (l : Label) → listed l xs ≡ false → celled s (columns_from k xs) r l ≡ r l
 off_columns s [] k r l e = refl
 off_columns s (x ∷ xs) k r l e =
-    passed (same_text l x) (g_is (s.type_of k)) (celled s (columns_from (k + 1) xs) r l) (first_not (same_text l x) (listed l xs) e)
-    ∙ off_columns s xs (k + 1) r l (more_not (same_text l x) (listed l xs) e)
+    passed (same_text l x) (g_is (s.type_of k)) (celled s (columns_from (k + 1) xs) r l) (neither (same_text l x) (listed l xs) e).0
+    ∙ off_columns s xs (k + 1) r l (neither (same_text l x) (listed l xs) e).1
 
 off_texts : (s : Solution) (ys : List Label) (r : GroundRow) (l : Label) → listed l ys ≡ false → celled s (all_texts ys) r l ≡ r l
 off_texts s [] r l e = refl
 off_texts s (y ∷ ys) r l e =
-    passed (same_text l y) (g_is g_text) (celled s (all_texts ys) r l) (first_not (same_text l y) (listed l ys) e)
-    ∙ off_texts s ys r l (more_not (same_text l y) (listed l ys) e)
+    passed (same_text l y) (g_is g_text) (celled s (all_texts ys) r l) (neither (same_text l y) (listed l ys) e).0
+    ∙ off_texts s ys r l (neither (same_text l y) (listed l ys) e).1
 
 at_texts : (s : Solution) (ys : List Label) (r : GroundRow) (l : Label) → listed l ys ≡ true → celled s (all_texts ys) r l ≡ g_is g_text
 at_texts s [] r l e = absurd (true≢false (sym e))
@@ -60,7 +54,7 @@ each_is : (r : GroundRow) (ys : List Label) (t : Ground) → ((l : Label) → li
 each_is r [] t h = tt
 each_is r (y ∷ ys) t h = (
   h y (chosen (same_text y y) true (listed y ys) (same_itself y)),
-  each_is r ys t (λ l e. h l (listed_also (same_text l y) (listed l ys) e)),
+  each_is r ys t (λ l e. h l (either_also (same_text l y) (listed l ys) e)),
 )
 
 texts_agree : (s : Solution) (ys : List Label) (r : GroundRow) → EachIs r ys g_text → AllAgree s (all_texts ys) r
@@ -121,8 +115,8 @@ pub pivot_law : (xs ys : List Label) (z : Label) → are_apart xs ys z ≡ true 
 pivot_law xs ys z ok =
     let parts = and_parts (apart xs ys) (not (listed z xs) && not (listed z ys)) ok in
     let lone = and_parts (not (listed z xs)) (not (listed z ys)) parts.1 in
-    let off_keys : listed z xs ≡ false = is_false (listed z xs) lone.0 in
-    let off_names : listed z ys ≡ false = is_false (listed z ys) lone.1 in
+    let off_keys : listed z xs ≡ false = not-true (listed z xs) lone.0 in
+    let off_names : listed z ys ≡ false = not-true (listed z ys) lone.1 in
     built _ _ (rw (asked_below xs ys z, columns_fit xs, first_below (length xs)) refl) (rw (asked_tidy xs ys z, columns_tidy xs 1) refl) (lit≤ tt)
     (inr (inl refl), tt) (λ L. (
       λ h.

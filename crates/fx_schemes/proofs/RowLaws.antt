@@ -5,24 +5,11 @@ use mathlib.Core.Bool.{true≢false}
 use Rattle.fx_base.specs.Text.{same_text}
 use Rattle.fx_types.specs.Term.{Label}
 use Rattle.fx_types.specs.Ground.{GroundField, GroundRow}
-use Rattle.fx_types.proofs.RowSums.{by_cases, same_is, same_itself}
+use Rattle.fx_types.proofs.Choices.{by_cases, chosen, passed}
+use Rattle.fx_types.proofs.RowSums.{same_is, same_itself}
 use Rattle.fx_schemes.specs.Line.{replaced}
 
-pub chosen : {A : Type 0} (b : Bool) (x y : A) → b ≡ true → (if b then x else y) ≡ x
-chosen b x y e = ap (λ c. if c then x else y) e
-
-pub passed : {A : Type 0} (b : Bool) (x y : A) → b ≡ false → (if b then x else y) ≡ y
-passed b x y e = ap (λ c. if c then x else y) e
-
--- what neither of two tests, and what both of them say
-pub first_not : (c b : Bool) → (if c then true else b) ≡ false → c ≡ false
-first_not true b e = e
-first_not false b e = refl
-
-pub more_not : (c b : Bool) → (if c then true else b) ≡ false → b ≡ false
-more_not true b e = absurd (true≢false e)
-more_not false b e = e
-
+-- of two tests the first fails, and the second holds
 pub not_first : (c b : Bool) → (if c then false else b) ≡ true → c ≡ false
 not_first true b e = absurd (true≢false (sym e))
 not_first false b e = refl
@@ -30,10 +17,6 @@ not_first false b e = refl
 pub not_more : (c b : Bool) → (if c then false else b) ≡ true → b ≡ true
 not_more true b e = absurd (true≢false (sym e))
 not_more false b e = e
-
-pub listed_also : (b c : Bool) → c ≡ true → (if b then true else c) ≡ true
-listed_also true c e = refl
-listed_also false c e = e
 
 pub same_row : (r q : GroundRow) → ((l : Label) → r l ≡ q l) → r ≡ q
 same_row r q h = λ i l. h l i

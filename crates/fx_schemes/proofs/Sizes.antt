@@ -7,8 +7,9 @@ use Rattle.fx_types.specs.Ground.{is_column, is_plain, listed}
 use Rattle.fx_types.specs.Instance.{ground, ground_field, plainest}
 use Rattle.fx_types.specs.Nodes.{nodes, nodes_labels, nodes_pipe, nodes_field, nodes_fields, nodes_tail}
 use Rattle.fx_types.specs.Size.{AtMost}
+use Rattle.fx_types.proofs.Choices.{chosen}
 use Rattle.fx_types.proofs.SizeLaws.{numbered}
-use Rattle.fx_schemes.proofs.RowLaws.{chosen}
+use Rattle.fx_types.proofs.SizeSteps.{plain_nothing}
 
 abbrev pub tidy_fields : Fields → Bool
 tidy_fields no_fields = true
@@ -52,11 +53,6 @@ abbrev mutual
 
 -- fields
 
-field_light : (f : Field) → is_plain (ground_field plainest f) ≡ true → nodes_field f ≡ 0
-field_light absent e = refl
-field_light (is t) e = chosen (is_column (ground plainest t)) 0 (nodes t + 1) e
-field_light (field_variable n) e = refl
-
 either_none : (b : Bool) (n : ℕ) → n ≡ 0 → (if b then 0 else n) ≡ 0
 either_none true n e = refl
 either_none false n e = e
@@ -65,7 +61,7 @@ fields_light : (before : List Label) (fs : Fields) → tidy_fields fs ≡ true �
 fields_light before no_fields e = refl
 fields_light before (more_fields x f fs) e =
     let parts = and_parts (is_plain (ground_field plainest f)) (tidy_fields fs) e in
-    let here : (if listed x before then 0 else nodes_field f) ≡ 0 = either_none (listed x before) (nodes_field f) (field_light f parts.0) in
+    let here : (if listed x before then 0 else nodes_field f) ≡ 0 = either_none (listed x before) (nodes_field f) (plain_nothing f parts.0) in
     let rest : nodes_fields (before ++ x ∷ []) fs ≡ 0 = fields_light (before ++ x ∷ []) fs parts.1 in
     omega arith
 

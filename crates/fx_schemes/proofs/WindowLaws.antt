@@ -4,7 +4,7 @@ use Rattle.std.specs.Prelude.{codes, if◌then◌else◌}
 use Rattle.fx_base.specs.Text.{same_text}
 use Rattle.fx_types.specs.Term.{Label}
 use Rattle.fx_types.specs.Ground.{Ground, GroundField, GroundRow, g_bool, g_int, g_time, g_span, g_absent, g_is, g_stream}
-use Rattle.fx_types.proofs.RowSums.{by_cases}
+use Rattle.fx_types.proofs.Choices.{by_cases, chosen, passed}
 use Rattle.fx_schemes.specs.declared.list.Builtin.TheVariants as b
 use Rattle.fx_schemes.specs.declared.simple.Simple as simples
 use Rattle.fx_schemes.specs.declared.simple.Simple.TheVariants as simple
@@ -15,7 +15,7 @@ use Rattle.fx_schemes.specs.Line.{Line, replaced, put, take_out, HasBounds, from
 use Rattle.fx_schemes.specs.Builtins.{IsLine, Counts, Sums, Extremes, Ends, Folds, OfWindows}
 use Rattle.fx_schemes.specs.Plan.{Cell}
 use Rattle.fx_schemes.specs.Scheme.{Scheme, IsSchemeOf}
-use Rattle.fx_schemes.proofs.RowLaws.{chosen, passed, same_row, has_put, moved}
+use Rattle.fx_schemes.proofs.RowLaws.{same_row, has_put, moved}
 use Rattle.fx_schemes.proofs.SchemeLaws.{built, built_by, solution, type_at, over_tables}
 
 -- a row with times at the three labels of windows

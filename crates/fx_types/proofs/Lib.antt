@@ -1,3 +1,5 @@
+pub mod Choices
+pub mod PlainLaws
 pub mod RowSums
 pub mod ShapeLaws
 pub mod SizeLaws

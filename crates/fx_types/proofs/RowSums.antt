@@ -7,21 +7,7 @@ use Rattle.fx_base.specs.Text.{same_text}
 use Rattle.fx_types.specs.Term.{Label}
 use Rattle.fx_types.specs.Ground.{GroundField, GroundRow, listed}
 use Rattle.fx_types.specs.Size.{AreDistinct, total}
-
--- tests
-
-chosen : {A : Type 0} (b : Bool) (x y : A) → b ≡ true → (if b then x else y) ≡ x
-chosen b x y e = ap (λ c. if c then x else y) e
-
-passed : {A : Type 0} (b : Bool) (x y : A) → b ≡ false → (if b then x else y) ≡ y
-passed b x y e = ap (λ c. if c then x else y) e
-
-never : {A : Type 0} (b : Bool) → b ≡ true → b ≡ false → A
-never b e f = absurd (true≢false (sym e ∙ f))
-
-pub by_cases : {A : Type 0} (b : Bool) → (b ≡ true → A) → (b ≡ false → A) → A
-by_cases true f g = f refl
-by_cases false f g = g refl
+use Rattle.fx_types.proofs.Choices.{chosen, passed, never, by_cases, either_also, neither}
 
 -- labels
 
@@ -47,13 +33,9 @@ listed_there : (l x : Label) (before : List Label) → listed l before ≡ true 
 listed_there l x [] h = never false h refl
 listed_there l x (b ∷ bs) h = either_true (same_text l b) (listed l bs) (listed l (bs ++ x ∷ [])) h (λ q. listed_there l x bs q)
 
-either_last : (c b : Bool) → b ≡ true → (if c then true else b) ≡ true
-either_last true b e = refl
-either_last false b e = e
-
 listed_last : (x : Label) (before : List Label) → listed x (before ++ x ∷ []) ≡ true
 listed_last x [] = chosen (same_text x x) true false (same_itself x)
-listed_last x (b ∷ bs) = either_last (same_text x b) (listed x (bs ++ x ∷ [])) (listed_last x bs)
+listed_last x (b ∷ bs) = either_also (same_text x b) (listed x (bs ++ x ∷ [])) (listed_last x bs)
 
 listed_less : (l x : Label) (before : List Label) → listed l (before ++ x ∷ []) ≡ false → listed l before ≡ false
 listed_less l x before h = by_cases (listed l before) (λ e. never (listed l (before ++ x ∷ [])) (listed_there l x before e) h) (λ e. e)
@@ -101,19 +83,10 @@ total-plus a b (l ∷ ls) = let h : total (λ l. a l + b l) ls ≡ total a ls + 
 no_more : (x : Label) (w : ℕ) (ls : List Label) → listed x ls ≡ false → total (λ l. if same_text l x then w else 0) ls ≡ 0
 no_more x w [] h = refl
 no_more x w (l ∷ ls) h =
-    let apart : same_text x l ≡ false = first (same_text x l) (listed x ls) h in
-    let rest : listed x ls ≡ false = second (same_text x l) (listed x ls) h in
-    let here : (if same_text l x then w else 0) ≡ 0 = passed (same_text l x) w 0 (nat_list_eq_equiv.symm l x ∙ apart) in
-    let more : total (λ l. if same_text l x then w else 0) ls ≡ 0 = no_more x w ls rest in
+    let apart : (same_text x l ≡ false) × (listed x ls ≡ false) = neither (same_text x l) (listed x ls) h in
+    let here : (if same_text l x then w else 0) ≡ 0 = passed (same_text l x) w 0 (nat_list_eq_equiv.symm l x ∙ apart.0) in
+    let more : total (λ l. if same_text l x then w else 0) ls ≡ 0 = no_more x w ls apart.1 in
     omega arith
-  where
-    first : (c b : Bool) → (if c then true else b) ≡ false → c ≡ false
-    first true b e = e
-    first false b e = refl
-
-    second : (c b : Bool) → (if c then true else b) ≡ false → b ≡ false
-    second true b e = never true refl e
-    second false b e = e
 
 at_once : (x : Label) (w : ℕ) (ls : List Label) → AreDistinct ls → total (λ l. if same_text l x then w else 0) ls ≤ w
 at_once x w [] d = omega arith
@@ -219,11 +192,11 @@ abbrev pub longest : List Item → ℕ
 longest [] = 0
 longest (e ∷ es) = max (length e.label) (longest es)
 
-abbrev zeros : ℕ → Label
+abbrev pub zeros : ℕ → Label
 zeros zero = []
 zeros (suc n) = 0 ∷ zeros n
 
-length-zeros : (n : ℕ) → length (zeros n) ≡ n
+pub length-zeros : (n : ℕ) → length (zeros n) ≡ n
 length-zeros zero = refl
 length-zeros (suc n) = ap suc (length-zeros n)
 

@@ -8,7 +8,9 @@ use Rattle.fx_types.specs.Ground.{Ground, GroundField, GroundRow, g_absent, g_is
 use Rattle.fx_types.specs.Instance.{ground, ground_labels, ground_pipe, ground_field, ground_fields, ground_tail, plainest}
 use Rattle.fx_types.specs.Size.{AreDistinct, total, AtMost, Weighs, Takes, Pipes, IsSize}
 use Rattle.fx_types.specs.Nodes.{nodes, nodes_labels, nodes_pipe, nodes_field, nodes_fields, nodes_tail, capped}
-use Rattle.fx_types.proofs.RowSums.{by_cases, Item, over, weighed, Counts, AllCount, counts_each, counts_least, weight_at, total_weight, firsts, firsts_distinct, longest, longer, longer_distinct, over_longer, total_longer}
+use Rattle.fx_types.proofs.Choices.{by_cases}
+use Rattle.fx_types.proofs.PlainLaws.{plain_weighs}
+use Rattle.fx_types.proofs.RowSums.{Item, over, weighed, Counts, AllCount, counts_each, counts_least, weight_at, total_weight, firsts, firsts_distinct, longest, longer, longer_distinct, over_longer, total_longer}
 
 abbrev top : ℕ
 top = 2 ^ 64 - 1
@@ -68,23 +70,17 @@ label_counts t h = (
 )
 
 -- what a row has at its unlisted labels
-tail_field : Tail → GroundField
+abbrev pub tail_field : Tail → GroundField
 tail_field (default f) = ground_field plainest f
 tail_field (row_variable n) = g_absent
 
-tail_is : (r : Tail) (l : Label) → ground_tail plainest r l ≡ tail_field r
-unfolding tail_field
+pub tail_is : (r : Tail) (l : Label) → ground_tail plainest r l ≡ tail_field r
 tail_is (default f) l = refl
 tail_is (row_variable n) l = refl
 
 tail_counts : (r : Tail) → nodes_tail r ≡ (if is_plain (tail_field r) then 0 else top)
-unfolding tail_field
 tail_counts (default f) = refl
 tail_counts (row_variable n) = refl
-
-light : (f : GroundField) → is_plain f ≡ true → (k : ℕ) → Weighs f k
-light g_absent e k = tt
-light (g_is t) e k = λ c. absurd (true≢false (sym e ∙ c))
 
 heavy : (f : GroundField) → is_plain f ≡ false → (k : ℕ) → Weighs f k → 1 ≤ k
 heavy g_absent e k w = absurd (true≢false e)
@@ -103,7 +99,7 @@ row_enough fs r all n le lt =
       weight_at [] (items_fields fs),
       λ l. subst (λ f. Weighs f (weight_at [] (items_fields fs) l)) (sym (row_over fs (ground_tail plainest r) l))
           (counts_each Weighs top [] (items_fields fs) (ground_tail plainest r) all (omega arith)
-          (λ x k. subst (λ f. Weighs f k) (sym (tail_is r x)) (light (tail_field r) t k)) l refl),
+          (λ x k. subst (λ f. Weighs f k) (sym (tail_is r x)) (plain_weighs (tail_field r) k t)) l refl),
       λ ls d. let most : total (weight_at [] (items_fields fs)) ls ≤ weighed [] (items_fields fs) = total_weight [] (items_fields fs) ls d in omega arith,
     ))
     (λ f. let endless : nodes_tail r ≡ top = tail_counts r ∙ ap (λ b. if b then 0 else top) f in absurd (omega arith))

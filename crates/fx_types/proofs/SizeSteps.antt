@@ -10,8 +10,8 @@ use Rattle.fx_types.specs.Ground.{is_column, is_plain, listed}
 use Rattle.fx_types.specs.Instance.{ground, ground_field, plainest}
 use Rattle.fx_types.specs.Nodes.{nodes, nodes_labels, nodes_field, nodes_fields, nodes_tail, capped}
 use Rattle.fx_types.specs.Shape.{term, field_term, entry_term, label_term, labels_of, fields_of}
+use Rattle.fx_types.proofs.Choices.{by_cases}
 use Rattle.fx_types.proofs.ShapeLaws.{entry_is, labelled_is}
-use Rattle.fx_types.proofs.RowSums.{by_cases}
 
 pub capped_within : (n r : ℕ) → r ≡ min n (2 ^ 64 - 1) → r ≤ 2 ^ 64 - 1
 capped_within n r e = omega arith
@@ -104,7 +104,7 @@ nothing_plain (is t) h =
     by_cases (is_column (ground plainest t)) (λ e. e)
     (λ e. let some : nodes_field (is t) ≡ nodes t + 1 = ap (λ c. if c then 0 else nodes t + 1) e in absurd (omega arith))
 
-plain_nothing : (f : Field) → is_plain (ground_field plainest f) ≡ true → nodes_field f ≡ 0
+pub plain_nothing : (f : Field) → is_plain (ground_field plainest f) ≡ true → nodes_field f ≡ 0
 plain_nothing absent e = refl
 plain_nothing (field_variable n) e = refl
 plain_nothing (is t) e = ap (λ c. if c then 0 else nodes t + 1) e

@@ -2,9 +2,10 @@
 use Rattle.std.proofs.Common.{◌≡◌, ◌≢◌, ◌⊎◌, inl, inr, refl, sym, ap, subst, ◌∙◌, ℕ, zero, suc, ◌+◌, ◌<◌, ◌≤◌, ◌==◌, ◌&&◌, eqb-true, eq-eqb, Bool, true, false, List, [], ◌∷◌, ◌++◌, take, get_or, length, None, Result, Ok, Err, arith}
 use Rattle.std.specs.Prelude.{if◌then◌else◌}
 use Rattle.std.proofs.lemmas.List.{take_more}
+use Rattle.std.proofs.lemmas.Bool.{and_from, and_parts}
 use mathlib.Core.Bool.{true≢false}
-use Rattle.fx_types.proofs.RowSums.{by_cases}
 use Rattle.fx_types.proofs.ShapeLaws.{term_variable, term_bool, term_int, term_text, term_time, term_span, term_pattern, term_done, term_array, term_fun, term_rec, term_stream}
+use Rattle.fx_types.proofs.Choices.{by_cases}
 use Rattle.fx_types.specs.declared.term.Ty.{Ty}
 use Rattle.fx_types.specs.declared.term.Ty.TheVariants as ty
 use Rattle.fx_types.specs.Ground.{Ground, g_bool, g_int, g_text, g_time, g_span, g_pattern, g_done, g_array, g_fun, g_rec, g_stream, g_is}
@@ -28,20 +29,6 @@ use Rattle.fx_unify.proofs.DecideLaws.{no_item}
 use Rattle.fx_unify.proofs.LeastLaws.{free_type}
 use Rattle.fx_unify.proofs.RowLaws.{take_all}
 use Rattle.fx_unify.proofs.SolvingLaws.{type_is}
-
--- tests
-
-both : (a b : Bool) → a ≡ true → b ≡ true → (a && b) ≡ true
-both true b e f = f
-both false b e f = absurd (true≢false (sym e))
-
-first_of : (a b : Bool) → (a && b) ≡ true → a ≡ true
-first_of true b e = refl
-first_of false b e = e
-
-second_of : (a b : Bool) → (a && b) ≡ true → b ≡ true
-second_of true b e = e
-second_of false b e = absurd (true≢false (sym e))
 
 -- sets
 
@@ -127,7 +114,7 @@ module _ (st : stores.Store) (b : bounds.Bound) (head : Ty) (same : (s : Solutio
 
   pub by_variable : (m : ℕ) → head ≡ ty.Var m → bound_to (entry st) (p_is (term head)) ≡ None → (old new : List sorts.Sorts) (r : Result (Unit {0}) UnifyFault)
       → NarrowingAt r old new m b.sorts → NarrowingBy r st old new b
-  by_variable m e free old new (Ok a) h = (allowed, inr (m, none, λ s solved. as_var s solved, λ g k. second_of (allows (set_at old m) g) (allows b.sorts g) (sym (h.1 g) ∙ k)), inside, some)
+  by_variable m e free old new (Ok a) h = (allowed, inr (m, none, λ s solved. as_var s solved, λ g k. (and_parts (allows (set_at old m) g) (allows b.sorts g) (sym (h.1 g) ∙ k)).1), inside, some)
     where
       is : term head ≡ type_variable m
       is = ap term e ∙ term_variable m
@@ -143,7 +130,7 @@ module _ (st : stores.Store) (b : bounds.Bound) (head : Ty) (same : (s : Solutio
           by_cases (n == m)
           (λ t. let same_n : n ≡ m = eqb-true n m t in
           subst (λ i. allows (set_at new i) (s.type_of i) ≡ true) (sym same_n)
-          (h.1 (s.type_of m) ∙ both (allows (set_at old m) (s.type_of m)) (allows b.sorts (s.type_of m)) (k m) (ap (allows b.sorts) (sym (as_var s solved)) ∙ a)))
+          (h.1 (s.type_of m) ∙ and_from (allows (set_at old m) (s.type_of m)) (allows b.sorts (s.type_of m)) (k m) (ap (allows b.sorts) (sym (as_var s solved)) ∙ a)))
           (λ t. ap (λ j. allows j (s.type_of n)) (h.0 n (λ f. absurd (true≢false (sym (eq-eqb n m f) ∙ t)))) ∙ k n)
 
       inside : (n : ℕ) → Inside (set_at new n) (set_at old n)
@@ -151,7 +138,7 @@ module _ (st : stores.Store) (b : bounds.Bound) (head : Ty) (same : (s : Solutio
           by_cases (n == m)
           (λ t. let same_n : n ≡ m = eqb-true n m t in
           subst (λ i. allows (set_at old i) g ≡ true) (sym same_n)
-          (first_of (allows (set_at old m) g) (allows b.sorts g) (sym (h.1 g) ∙ subst (λ i. allows (set_at new i) g ≡ true) same_n k)))
+          (and_parts (allows (set_at old m) g) (allows b.sorts g) (sym (h.1 g) ∙ subst (λ i. allows (set_at new i) g ≡ true) same_n k)).0)
           (λ t. ap (λ j. allows j g) (sym (h.0 n (λ f. absurd (true≢false (sym (eq-eqb n m f) ∙ t))))) ∙ k)
 
       some : AreSome old → AreSome new
@@ -160,7 +147,7 @@ module _ (st : stores.Store) (b : bounds.Bound) (head : Ty) (same : (s : Solutio
           (λ t. subst (λ j. allows j (plainest_of j) ≡ true) (sym (h.0 n (λ f. absurd (true≢false (sym (eq-eqb n m f) ∙ t))))) (k n))
   by_variable m e free old new (Err fault.Clash) h =
       λ s solved a k. (let as_var : s.type_of b.var ≡ s.type_of m = stands s solved ∙ ap (ground s) (ap term e ∙ term_variable m) in
-      absurd (true≢false (sym (both (allows (set_at old m) (s.type_of m)) (allows b.sorts (s.type_of m)) (k m) (ap (allows b.sorts) (sym as_var) ∙ a)) ∙ h (s.type_of m))))
+      absurd (true≢false (sym (and_from (allows (set_at old m) (s.type_of m)) (allows b.sorts (s.type_of m)) (k m) (ap (allows b.sorts) (sym as_var) ∙ a)) ∙ h (s.type_of m))))
   by_variable m e free old new (Err fault.Memory) h = tt
 
 -- a free variable

@@ -4,7 +4,9 @@ use Rattle.std.specs.Prelude.{if◌then◌else◌}
 use Rattle.std.proofs.lemmas.List.{take_more}
 use mathlib.Core.Bool.{true≢false}
 use Rattle.fx_base.specs.Text.{same_text}
-use Rattle.fx_types.proofs.RowSums.{by_cases, same_is, same_itself}
+use Rattle.fx_types.proofs.Choices.{by_cases, chosen, passed, never}
+use Rattle.fx_types.proofs.PlainLaws.{plain_formed, plain_weighs, weighs_plain}
+use Rattle.fx_types.proofs.RowSums.{same_is, same_itself}
 use Rattle.fx_types.specs.declared.term.FieldTy.{FieldTy}
 use Rattle.fx_types.specs.declared.term.Ty.{Ty}
 use Rattle.fx_types.specs.Term.{Label, type_variable}
@@ -33,8 +35,8 @@ use Rattle.fx_unify.proofs.LeastLaws.{bound_step, free_type, free_field, free_sl
 use Rattle.fx_unify.proofs.MeasureLaws.{one_node, counts_none, more_piped, more_nodes}
 use Rattle.fx_unify.proofs.OpenLaws.{known_listed, slot_first}
 use Rattle.fx_unify.proofs.RowLaws.{value_of, take_all}
-use Rattle.fx_unify.proofs.StoreLaws.{chosen, passed, off_columns, stepped, followed}
-use Rattle.fx_unify.proofs.SumLaws.{never, fresh_label, plain_formed, plain_weighs, weighs_plain, truly, true_is}
+use Rattle.fx_unify.proofs.StoreLaws.{off_columns, stepped, followed}
+use Rattle.fx_unify.proofs.SumLaws.{fresh_label}
 
 -- numbers
 
@@ -219,7 +221,7 @@ module _ (st : stores.Store) (ks : List sorts.Sorts) where
       (let off : (e : GroundField) × IsTrue (is_plain e) × ((ls : List Label) × ((l : Label) → listed l ls ≡ false → s.row_of r l ≡ e)) = (within.2 r).0 in
       let l : (l : Label) × (listed l (column_names st.columns.items) ≡ false) × (listed l off.2.0 ≡ false) = fresh_label (column_names st.columns.items) off.2.0 in
       let is : ground_field s (field_term d) ≡ off.0 = sym (same s among.0 l.0 (known_listed l.0 st.columns.items ∙ l.1)) ∙ off.2.1 l.0 l.2 in
-      let plain : is_plain (ground_field s (field_term d)) ≡ true = ap is_plain is ∙ truly (is_plain off.0) off.1 in
+      let plain : is_plain (ground_field s (field_term d)) ≡ true = ap is_plain is ∙ off.1 in
       h s among (plain_formed (ground_field s (field_term d)) plain) (plain_weighs (ground_field s (field_term d)) 0 plain))
   default_refused d r fault.Memory P same h = tt
 
@@ -229,7 +231,7 @@ module _ (st : stores.Store) (ks : List sorts.Sorts) where
     suc h.0.1.0,
     (
       h.0.0,
-      true_is (is_plain h.0.0) (weighs_plain h.0.0 w h.1 h.0.3),
+      weighs_plain h.0.0 w h.1 h.0.3,
       λ n le l off.
           (let same : n ≡ suc (n - 1) = omega arith in let more : h.0.1.0 ≤ n - 1 = omega arith in
           ap (λ j. (least st ks j).row_of r l) same ∙ root_step r o e (n - 1) l off ∙ ap (λ x. value (least st ks (n - 1)) (root_at l x)) is
@@ -281,7 +283,7 @@ module _ (st : stores.Store) (ks : List sorts.Sorts) where
     h.0.1.0 + way.0,
     (
       h.0.0,
-      true_is (is_plain h.0.0) (weighs_plain h.0.0 w h.1 h.0.3),
+      weighs_plain h.0.0 w h.1 h.0.3,
       λ n le l off.
           (let same : n ≡ n - way.0 + way.0 = omega arith in let more : h.0.1.0 ≤ n - way.0 = omega arith in
           ap (λ j. (least st ks j).row_of r l) same ∙ way.1 (plain_values ks) (n - way.0) l off ∙ ap (λ x. value (least st ks (n - way.0)) (root_at l x)) is
@@ -329,7 +331,7 @@ module _ (st : stores.Store) (ks : List sorts.Sorts) where
       rows r = (
         ((o.1 r).0, (o.1 r).1, (column_names st.columns.items, λ l e. (o.1 r).2 last (omega arith) l (known_listed l st.columns.items ∙ e))),
         λ l. by_cases (known l st.columns.items) (λ k. subst IsField (sym ((c.1 r l k).1 last (omega arith))) (c.1 r l k).2)
-            (λ k. subst IsField (sym ((o.1 r).2 last (omega arith) l k)) (plain_field (o.1 r).0 (truly (is_plain (o.1 r).0) (o.1 r).1))),
+            (λ k. subst IsField (sym ((o.1 r).2 last (omega arith) l k)) (plain_field (o.1 r).0 (o.1 r).1)),
       )
 
   pub all_fixed : ((k : ℕ) × ((n : ℕ) → Fixed (least st ks) (λ s. g_is (s.type_of n)) k)) → ((k : ℕ) × ((n : ℕ) → Fixed (least st ks) (λ s. s.field_of n) k))

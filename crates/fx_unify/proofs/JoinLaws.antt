@@ -7,7 +7,8 @@ use Rattle.fx_types.specs.declared.term.FieldTy.TheViews.{out-RowTy}
 use Rattle.fx_types.specs.Term.{Label}
 use Rattle.fx_types.specs.Instance.{Solution, ground_tail}
 use Rattle.fx_types.specs.Shape.{field_term, entry_term, rest_term, row_term, fields_of}
-use Rattle.fx_types.proofs.RowSums.{by_cases, same_is}
+use Rattle.fx_types.proofs.Choices.{by_cases, passed}
+use Rattle.fx_types.proofs.RowSums.{same_is, zeros, length-zeros}
 use Rattle.fx_types.proofs.ShapeLaws.{row_is}
 use Rattle.fx_unify.specs.declared.fault.UnifyFault.{UnifyFault}
 use Rattle.fx_unify.specs.declared.store.Column as columns
@@ -20,7 +21,6 @@ use Rattle.fx_unify.specs.Rows.{ground_row, AllKnown, SameAt}
 use Rattle.fx_unify.specs.Work.{Hold, Holds, Solving}
 use Rattle.fx_unify.proofs.RowLaws.{off_listed, same_rows}
 use Rattle.fx_unify.proofs.SolvingLaws.{restated, restated_where, after}
-use Rattle.fx_unify.proofs.StoreLaws.{passed}
 
 pub turned : {A B : Type 0} (cs : List columns.Column) (s : Solution) (o q : roots.Root) (r : ℕ) → q ≡ root.Var r
     → A ↔ (B × ((l : Label) → known l cs ≡ false → s.row_of r l ≡ value s (root_at l o)))
@@ -35,15 +35,6 @@ turned cs s o q r e h = (
 longest : List columns.Column → ℕ
 longest [] = 0
 longest (c ∷ cs) = max (length c.label) (longest cs)
-
-zeros : ℕ → Label
-zeros zero = []
-zeros (suc n) = 0 ∷ zeros n
-
-length-zeros : (n : ℕ) → length (zeros n) ≡ n
-unfolding zeros
-length-zeros zero = refl
-length-zeros (suc n) = ap suc (length-zeros n)
 
 longer_unknown : (l : Label) (cs : List columns.Column) → longest cs < length l → known l cs ≡ false
 unfolding longest

@@ -2,7 +2,8 @@
 use Rattle.std.proofs.Common.{◌≡◌, refl, sym, ap, subst, ◌∙◌, ℕ, zero, suc, ◌+◌, ◌-◌, ◌≤◌, Bool, true, false, List, [], ◌∷◌, Result, Ok, Err, IsTrue, arith}
 use Rattle.std.specs.Prelude.{if◌then◌else◌}
 use mathlib.Core.Bool.{true≢false}
-use Rattle.fx_types.proofs.RowSums.{by_cases}
+use Rattle.fx_types.proofs.Choices.{by_cases, chosen, passed, never}
+use Rattle.fx_types.proofs.PlainLaws.{plain_formed, plain_weighs, weighs_plain}
 use Rattle.fx_types.specs.Term.{Label}
 use Rattle.fx_types.specs.Ground.{Ground, GroundField, GroundRow, g_bool, g_int, g_text, g_time, g_span, g_pattern, g_done, g_array, g_fun, g_rec, g_stream, g_absent, g_is, is_plain, is_column, listed, HasDefault, IsWellFormed, IsWellFormedField}
 use Rattle.fx_types.specs.Instance.{Solution}
@@ -12,8 +13,7 @@ use Rattle.fx_unify.specs.declared.fault.UnifyFault.TheVariants as fault
 use Rattle.fx_unify.specs.Measure.{Settles, Measured, Measuring, Sums, IsPlainOff, RowMeasured, RowMeasuring}
 use Rattle.fx_unify.specs.Sums.{Summed, Summing}
 use Rattle.fx_unify.proofs.SolvingLaws.{type_is}
-use Rattle.fx_unify.proofs.StoreLaws.{chosen, passed}
-use Rattle.fx_unify.proofs.SumLaws.{never, fresh_label, plain_formed, plain_weighs, weighs_plain, truly, true_is, no_weight}
+use Rattle.fx_unify.proofs.SumLaws.{fresh_label, no_weight}
 
 pub more_nodes : (t : Ground) (a b : ℕ) → AtMost t a → a ≤ b → AtMost t b
 more_nodes (g_array t) a b h le = (h.0, h.1, omega (arith, h.2))
@@ -109,7 +109,7 @@ module _ (at : ℕ → Solution) (Among : Solution → Type 0) where
   measured_stream f n none h = (
     g_is (g_stream h.0),
     (h.1.0, λ i le. ap (λ r. g_is (g_stream r)) (λ j l. h.1.1 i le l j)),
-    ((h.2.0, h.2.2), λ l. (let few : h.4.0 l + 0 ≤ n = h.4.2 (l ∷ []) (refl, tt) in true_is (is_plain (h.0 l)) (weighs_plain (h.0 l) (h.4.0 l) (omega arith) (h.4.1 l)))),
+    ((h.2.0, h.2.2), λ l. (let few : h.4.0 l + 0 ≤ n = h.4.2 (l ∷ []) (refl, tt) in weighs_plain (h.0 l) (h.4.0 l) (omega arith) (h.4.1 l))),
     (h.4.0, h.4.1, λ ls d. (let few : total h.4.0 ls ≤ n = h.4.2 ls d in omega arith)),
     λ s among m c. some_node (g_stream (f s)) m c,
   )
@@ -117,8 +117,8 @@ module _ (at : ℕ → Solution) (Among : Solution → Type 0) where
   pub stream_over : (f : Solution → GroundRow) (room : ℕ) → RowMeasuring (Err fault.Clash) at Among f 0 → Measuring (Err fault.Clash) at Among Pipes (λ s. g_is (g_stream (f s))) room
   stream_over f room h s among formed c =
       let l : (l : Label) × (listed l formed.0.1.0 ≡ false) × (listed l [] ≡ false) = fresh_label formed.0.1.0 [] in
-      let plain : (k : Label) → is_plain (f s k) ≡ true = λ k. truly (is_plain (f s k)) (formed.1 k) in
-      h s among (formed.0.0, true_is (is_plain formed.0.0) (ap is_plain (sym (formed.0.1.1 l.0 l.1)) ∙ plain l.0), formed.0.1) (λ k. plain_formed (f s k) (plain k)) (λ _. 0)
+      let plain : (k : Label) → is_plain (f s k) ≡ true = formed.1 in
+      h s among (formed.0.0, ap is_plain (sym (formed.0.1.1 l.0 l.1)) ∙ plain l.0, formed.0.1) (λ k. plain_formed (f s k) (plain k)) (λ _. 0)
       (λ k. plain_weighs (f s k) 0 (plain k)) (λ ls d. no_weight ls)
 
   -- a field that counts, and a required label

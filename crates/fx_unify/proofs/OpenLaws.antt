@@ -4,7 +4,9 @@ use Rattle.std.specs.Prelude.{if◌then◌else◌}
 use Rattle.std.proofs.lemmas.List.{drop_more, take_more, map-append}
 use mathlib.Core.Bool.{true≢false}
 use Rattle.fx_base.specs.Text.{same_text}
-use Rattle.fx_types.proofs.RowSums.{by_cases, same_is, same_itself}
+use Rattle.fx_types.proofs.Choices.{by_cases, chosen, passed, never, neither}
+use Rattle.fx_types.proofs.PlainLaws.{weighs_plain}
+use Rattle.fx_types.proofs.RowSums.{same_is, same_itself}
 use Rattle.fx_types.proofs.ShapeLaws.{entry_is, labelled_is, row_is, function_is, term_bool, term_int, term_text, term_time, term_span, term_pattern, term_done, term_variable, tail_default, tail_var}
 use Rattle.fx_types.specs.declared.term.FieldTy.{FieldTy}
 use Rattle.fx_types.specs.declared.term.FunTy.{FunTy}
@@ -39,8 +41,8 @@ use Rattle.fx_unify.proofs.HeadLaws.{ground_array, ground_fun, ground_rec, groun
 use Rattle.fx_unify.proofs.LeastLaws.{free_type, free_field, free_slot, led, measured_before}
 use Rattle.fx_unify.proofs.MeasureLaws.{more_nodes, some_node, more_weight, more_taken, no_room, one_node, restated_measure, counts_none, measured_array, array_over, measured_record, record_over, measured_stream, stream_over, measured_taken, taken_over, taken_no_room, measured_field, field_over, field_no_room, measured_function, labels_over, pipe_over, result_over}
 use Rattle.fx_unify.proofs.RowLaws.{value_of, ground_row_is, take_all}
-use Rattle.fx_unify.proofs.StoreLaws.{chosen, passed, off_columns}
-use Rattle.fx_unify.proofs.SumLaws.{never, listed_one_more, weighs_plain, sum_start, sum_skip, sum_add, sum_over, row_whole, row_refused, row_over}
+use Rattle.fx_unify.proofs.StoreLaws.{off_columns}
+use Rattle.fx_unify.proofs.SumLaws.{listed_one_more, sum_start, sum_skip, sum_add, sum_over, row_whole, row_refused, row_over}
 
 -- labels of rows and of columns
 
@@ -56,14 +58,10 @@ pub known_listed : (l : Label) (cs : List columns.Column) → known l cs ≡ lis
 known_listed l [] = refl
 known_listed l (c ∷ cs) = ap (λ y. if same_text l c.label then true else y) (known_listed l cs)
 
-first_false : (a b : Bool) → (if a then true else b) ≡ false → (a ≡ false) × (b ≡ false)
-first_false true b e = absurd (true≢false e)
-first_false false b e = (refl, e)
-
 off_fields : (s : Solution) (es : List LabelField) (q : GroundRow) (l : Label) → listed l (names es) ≡ false → ground_fields s (fields_of (map entry_term es)) q l ≡ q l
 off_fields s [] q l h = refl
 off_fields s (e ∷ es) q l h =
-    let apart : (same_text l e.label ≡ false) × (listed l (names es) ≡ false) = first_false (same_text l e.label) (listed l (names es)) h in
+    let apart : (same_text l e.label ≡ false) × (listed l (names es) ≡ false) = neither (same_text l e.label) (listed l (names es)) h in
     rw (entry_is e) (passed (same_text l e.label) (ground_field s (field_term e.field)) (ground_fields s (fields_of (map entry_term es)) q l) apart.0) ∙ off_fields s es q l apart.1
 
 pub off_row : (s : Solution) (row : RowTy) (l : Label) → listed l (row_names row) ≡ false → ground_row s (row_term row) l ≡ ground_tail s (rest_term (row_rest row)) l
@@ -79,7 +77,7 @@ slot_first (d ∷ cs) rs zero c r h lt at =
     chosen (same_text c.label d.label) (option_map part (get_or d.slots.items r None)) (slot_in cs rs r c.label) (subst (λ x. same_text c.label x.label ≡ true) at (same_itself c.label))
     ∙ ap (λ x. option_map part (get_or x.slots.items r None)) (sym at)
 slot_first (d ∷ cs) rs (suc i) c r h lt at =
-    let apart : (same_text c.label d.label ≡ false) × (known c.label (take i cs) ≡ false) = first_false (same_text c.label d.label) (known c.label (take i cs)) h in
+    let apart : (same_text c.label d.label ≡ false) × (known c.label (take i cs) ≡ false) = neither (same_text c.label d.label) (known c.label (take i cs)) h in
     passed (same_text c.label d.label) (option_map part (get_or d.slots.items r None)) (slot_in cs rs r c.label) apart.0
     ∙ slot_first cs rs i c r apart.1 (omega arith) at
 
@@ -214,7 +212,7 @@ module _ (st : stores.Store) (ks : List sorts.Sorts) (row : RowTy) where
   apart : (l : Label) → listed l all ≡ false → (listed l (row_names row) ≡ false) × (known l st.columns.items ≡ false)
   apart l off =
       let both : (listed l (row_names row) ≡ false) × (listed l (column_names st.columns.items) ≡ false) =
-      first_false (listed l (row_names row)) (listed l (column_names st.columns.items)) (sym (listed_append l (row_names row) (column_names st.columns.items)) ∙ off) in
+      neither (listed l (row_names row)) (listed l (column_names st.columns.items)) (sym (listed_append l (row_names row) (column_names st.columns.items)) ∙ off) in
       (both.0, known_listed l st.columns.items ∙ both.1)
 
   way_off : (o : roots.Root) → (h : RestLeads st (rest_term (row_rest row)) o) → (i : ℕ) → h.0 ≤ i → (l : Label) → listed l all ≡ false → rows (least st ks i) l ≡ value (least st ks (i - h.0)) (root_at l o)

@@ -15,13 +15,13 @@ use Rattle.fx_types.specs.Term.{Label, Field, absent, is, field_variable, Fields
 use Rattle.fx_types.specs.Ground.{GroundField, GroundRow, g_absent, g_is}
 use Rattle.fx_types.specs.Instance.{Solution, ground, ground_field, ground_fields, ground_labels, ground_tail}
 use Rattle.fx_types.specs.Shape.{term, field_term, entry_term, label_term, rest_term, row_term, fields_of, labels_of}
-use Rattle.fx_types.proofs.RowSums.{by_cases, same_is}
+use Rattle.fx_types.proofs.Choices.{by_cases, chosen, passed}
+use Rattle.fx_types.proofs.RowSums.{same_is}
 use Rattle.fx_types.proofs.ShapeLaws.{entry_is, labelled_is, row_is, field_absent, field_is, tail_default}
 use Rattle.fx_unify.specs.declared.store.Column as columns
 use Rattle.fx_unify.specs.Part.{value, part_of}
 use Rattle.fx_unify.specs.Store.{known}
 use Rattle.fx_unify.specs.Rows.{ground_row, AllKnown, SameAt, as_field}
-use Rattle.fx_unify.proofs.StoreLaws.{chosen, passed}
 
 pub if_ok : {A E : Type 0} {P Q : A → Type 0} (r : Result A E) → ((x : A) → P x → Q x) → IfOk r P → IfOk r Q
 if_ok (Ok x) f p = f x p

@@ -5,7 +5,8 @@ use Rattle.std.proofs.lemmas.List.{drop_more}
 use Rattle.std.proofs.Math.ListN.{get_or-map}
 use mathlib.Core.Bool.{true≢false}
 use Rattle.fx_base.specs.Text.{same_text}
-use Rattle.fx_types.proofs.RowSums.{by_cases, same_is, same_itself}
+use Rattle.fx_types.proofs.Choices.{by_cases, chosen, passed}
+use Rattle.fx_types.proofs.RowSums.{same_is, same_itself}
 use Rattle.fx_types.specs.declared.term.Ty.{Ty}
 use Rattle.fx_types.specs.Term.{Label, type_variable}
 use Rattle.fx_types.specs.Instance.{Solution}
@@ -17,12 +18,6 @@ use Rattle.fx_unify.specs.declared.store.Store as stores
 use Rattle.fx_unify.specs.Part.{Part, p_is, p_field, p_slot, part, value, Variable, type_node, field_node, slot_node, as_part, Entries, Solved}
 use Rattle.fx_unify.specs.Store.{root_at, slot_in, entry, known, IsFirst, bound_to}
 use Rattle.fx_unify.specs.Work.{Hold, Holds}
-
-pub chosen : {A : Type 0} (b : Bool) (x y : A) → b ≡ true → (if b then x else y) ≡ x
-chosen b x y e = ap (λ c. if c then x else y) e
-
-pub passed : {A : Type 0} (b : Bool) (x y : A) → b ≡ false → (if b then x else y) ≡ y
-passed b x y e = ap (λ c. if c then x else y) e
 
 pub on_ok : {A E P Q : Type 0} (r : Result A E) → (P → Q) → OnOk r P → OnOk r Q
 on_ok (Ok x) f p = f p

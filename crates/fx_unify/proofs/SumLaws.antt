@@ -3,7 +3,9 @@ use Rattle.std.proofs.Common.{◌≡◌, refl, sym, ap, subst, ◌∙◌, ℕ, z
 use Rattle.std.specs.Prelude.{if◌then◌else◌}
 use mathlib.Core.Bool.{true≢false}
 use Rattle.fx_base.specs.Text.{same_text}
-use Rattle.fx_types.proofs.RowSums.{by_cases, same_is, same_itself}
+use Rattle.fx_types.proofs.Choices.{by_cases, chosen, passed, neither, never}
+use Rattle.fx_types.proofs.PlainLaws.{plain_formed, plain_weighs}
+use Rattle.fx_types.proofs.RowSums.{same_is, same_itself, zeros, length-zeros}
 use Rattle.fx_types.specs.Term.{Label}
 use Rattle.fx_types.specs.Ground.{Ground, GroundField, GroundRow, g_bool, g_int, g_text, g_time, g_absent, g_is, is_plain, is_column, listed, HasDefault, IsWellFormedField}
 use Rattle.fx_types.specs.Instance.{Solution}
@@ -12,12 +14,8 @@ use Rattle.fx_unify.specs.declared.fault.UnifyFault.{UnifyFault}
 use Rattle.fx_unify.specs.declared.fault.UnifyFault.TheVariants as fault
 use Rattle.fx_unify.specs.Measure.{Settles, Measured, Measuring, Sums, IsPlainOff, RowMeasured, RowMeasuring}
 use Rattle.fx_unify.specs.Sums.{Summed, Summing}
-use Rattle.fx_unify.proofs.StoreLaws.{chosen, passed}
 
 -- labels
-
-pub never : {A : Type 0} (b : Bool) → b ≡ true → b ≡ false → A
-never b e f = absurd (true≢false (sym e ∙ f))
 
 pub listed_one_more : (l x : Label) (ls : List Label) → listed l (ls ++ x ∷ []) ≡ (if same_text l x then true else listed l ls)
 listed_one_more l x [] = refl
@@ -28,21 +26,8 @@ listed_one_more l x (y ∷ ls) = step (same_text l y) (same_text l x) (listed l 
     step true false c d e = refl
     step false b c d e = e
 
-either_false : (a b : Bool) → (if a then true else b) ≡ false → (a ≡ false) × (b ≡ false)
-either_false true b e = absurd (true≢false e)
-either_false false b e = (refl, e)
-
 none_of_both : (a b : Bool) → a ≡ false → b ≡ false → (if a then true else b) ≡ false
 none_of_both a b e f = passed a true b e ∙ f
-
-zeros : ℕ → Label
-zeros zero = []
-zeros (suc n) = 0 ∷ zeros n
-
-length-zeros : (n : ℕ) → length (zeros n) ≡ n
-unfolding zeros
-length-zeros zero = refl
-length-zeros (suc n) = ap suc (length-zeros n)
 
 longest : List Label → ℕ
 longest [] = 0
@@ -61,33 +46,6 @@ fresh_label ls ms =
     let size : length (zeros n) ≡ n = length-zeros n in
     (zeros n, longer_unlisted (zeros n) ls (omega arith), longer_unlisted (zeros n) ms (omega arith))
 
--- plain fields
-
-column_formed : (t : Ground) → is_column t ≡ true → IsWellFormedField (g_is t)
-column_formed g_bool e = tt
-column_formed g_int e = tt
-column_formed g_text e = tt
-column_formed g_time e = tt
-column_formed _ e = absurd (true≢false (sym e))
-
-pub plain_formed : (g : GroundField) → is_plain g ≡ true → IsWellFormedField g
-plain_formed g_absent e = tt
-plain_formed (g_is t) e = column_formed t e
-
-pub plain_weighs : (g : GroundField) (n : ℕ) → is_plain g ≡ true → Weighs g n
-plain_weighs g_absent n e = tt
-plain_weighs (g_is t) n e = λ f. never (is_column t) e f
-
-pub weighs_plain : (g : GroundField) (n : ℕ) → n ≤ 0 → Weighs g n → is_plain g ≡ true
-weighs_plain g_absent n le h = refl
-weighs_plain (g_is t) n le h = by_cases (is_column t) (λ e. e) (λ e. let more : (h e).0 + 1 ≤ n = (h e).2 in absurd (omega arith))
-
-pub truly : (b : Bool) → IsTrue b → b ≡ true
-truly b h = h
-
-pub true_is : (b : Bool) → b ≡ true → IsTrue b
-true_is b e = e
-
 -- weights
 
 abbrev put_weight : Label → ℕ → (Label → ℕ) → Label → ℕ
@@ -96,7 +54,7 @@ put_weight x w weight l = if same_text l x then w else weight l
 untouched : (x : Label) (w : ℕ) (weight : Label → ℕ) (ls : List Label) → listed x ls ≡ false → total (put_weight x w weight) ls ≡ total weight ls
 untouched x w weight [] h = refl
 untouched x w weight (l ∷ ls) h =
-    let apart : (same_text x l ≡ false) × (listed x ls ≡ false) = either_false (same_text x l) (listed x ls) h in
+    let apart : (same_text x l ≡ false) × (listed x ls ≡ false) = neither (same_text x l) (listed x ls) h in
     let other : same_text l x ≡ false =
     by_cases (same_text l x) (λ e. never (same_text x l) (subst (λ y. same_text x y ≡ true) (sym (same_is l x e)) (same_itself x)) apart.0) (λ e. e) in
     let here : put_weight x w weight l ≡ weight l = passed (same_text l x) w (weight l) other in
@@ -165,7 +123,7 @@ module _ (at : ℕ → Solution) (Among : Solution → Type 0) (C : GroundField 
 
       none : (l : Label) → listed l more ≡ false → put_weight x w h.3.0 l ≡ 0
       none l e =
-          let apart : (same_text l x ≡ false) × (listed l seen ≡ false) = either_false (same_text l x) (listed l seen) (sym (both l) ∙ e) in
+          let apart : (same_text l x ≡ false) × (listed l seen ≡ false) = neither (same_text l x) (listed l seen) (sym (both l) ∙ e) in
           passed (same_text l x) w (h.3.0 l) apart.0 ∙ h.3.2 l apart.1
 
       sums : Sums (put_weight x w h.3.0) (n + w)
@@ -182,7 +140,7 @@ module _ (at : ℕ → Solution) (Among : Solution → Type 0) (C : GroundField 
           let before : n ≤ total weight v.0 = v.3 in (
             x ∷ v.0,
             (v.2 x new, v.1),
-            λ l e. (let apart : (same_text l x ≡ false) × (listed l seen ≡ false) = either_false (same_text l x) (listed l seen) (sym (both l) ∙ e) in
+            λ l e. (let apart : (same_text l x ≡ false) × (listed l seen ≡ false) = neither (same_text l x) (listed l seen) (sym (both l) ∙ e) in
                 none_of_both (same_text l x) (listed l v.0) apart.0 (v.2 l apart.1)),
             omega arith,
           )
@@ -203,7 +161,7 @@ module _ (at : ℕ → Solution) (Among : Solution → Type 0) (C : GroundField 
 module _ (at : ℕ → Solution) (Among : Solution → Type 0) (f : Solution → GroundRow) (seen : List Label) where
   pub row_whole : (n : ℕ) (d : GroundField) → is_plain d ≡ true → (k : ℕ) × ((i : ℕ) → k ≤ i → (l : Label) → listed l seen ≡ false → f (at i) l ≡ d)
       → Summed at Among Weighs f seen n → RowMeasured at Among f n
-  row_whole n d plain rest h = (row, (h.1.0 + rest.0, settled), (d, true_is (is_plain d) plain, (seen, λ l e. passed (listed l seen) (h.0 l) d e)), formed, (h.3.0, weighs, h.3.3), low)
+  row_whole n d plain rest h = (row, (h.1.0 + rest.0, settled), (d, plain, (seen, λ l e. passed (listed l seen) (h.0 l) d e)), formed, (h.3.0, weighs, h.3.3), low)
     where
       row : GroundRow
       row l = if listed l seen then h.0 l else d
@@ -236,7 +194,7 @@ module _ (at : ℕ → Solution) (Among : Solution → Type 0) (f : Solution →
   row_refused room d rest clash s among off formed weight all sums =
       let l : (l : Label) × (listed l seen ≡ false) × (listed l off.2.0 ≡ false) = fresh_label seen off.2.0 in
       let same : d s ≡ off.0 = sym (rest s among l.0 l.1) ∙ off.2.1 l.0 l.2 in
-      let plain : is_plain (d s) ≡ true = ap is_plain same ∙ truly (is_plain off.0) off.1 in
+      let plain : is_plain (d s) ≡ true = ap is_plain same ∙ off.1 in
       clash s among (plain_formed (d s) plain) (plain_weighs (d s) 0 plain)
 
   pub row_over : (room : ℕ) → ((s : Solution) → Among s → ((l : Label) → IsWellFormedField (f s l)) → (weight : Label → ℕ) → ((l : Label) → Weighs (f s l) (weight l)) → Sums weight room → ⊥)

@@ -4,7 +4,9 @@ use Rattle.std.specs.Prelude.{if◌then◌else◌}
 use Rattle.std.proofs.lemmas.List.{drop_more, take_more, map-append}
 use mathlib.Core.Bool.{true≢false}
 use Rattle.fx_base.specs.Text.{same_text}
-use Rattle.fx_types.proofs.RowSums.{by_cases, same_is, same_itself}
+use Rattle.fx_types.proofs.Choices.{by_cases, chosen, passed, never}
+use Rattle.fx_types.proofs.PlainLaws.{weighs_plain}
+use Rattle.fx_types.proofs.RowSums.{same_is, same_itself}
 use Rattle.fx_types.proofs.ShapeLaws.{entry_is, labelled_is, row_is, function_is, term_bool, term_int, term_text, term_time, term_span, term_pattern, term_done, term_variable, field_absent, field_is, field_var}
 use Rattle.fx_types.specs.declared.term.FieldTy.{FieldTy}
 use Rattle.fx_types.specs.declared.term.FieldTy.TheVariants as fields
@@ -42,8 +44,8 @@ use Rattle.fx_unify.proofs.HeadLaws.{ground_array, ground_fun, ground_rec, groun
 use Rattle.fx_unify.proofs.LeastLaws.{bound_step, free_type, free_field, free_slot, led, measured_before}
 use Rattle.fx_unify.proofs.MeasureLaws.{more_nodes, some_node, more_weight, more_taken, no_room, one_node, restated_measure, counts_none, measured_array, array_over, measured_record, record_over, measured_stream, stream_over, measured_taken, taken_over, taken_no_room, measured_field, field_over, field_no_room, measured_function, labels_over, pipe_over, result_over}
 use Rattle.fx_unify.proofs.RowLaws.{value_of, ground_row_is}
-use Rattle.fx_unify.proofs.StoreLaws.{chosen, passed, off_columns}
-use Rattle.fx_unify.proofs.SumLaws.{never, listed_one_more, weighs_plain, sum_start, sum_skip, sum_add, sum_over, row_whole, row_refused, row_over}
+use Rattle.fx_unify.proofs.StoreLaws.{off_columns}
+use Rattle.fx_unify.proofs.SumLaws.{listed_one_more, sum_start, sum_skip, sum_add, sum_over, row_whole, row_refused, row_over}
 use Rattle.fx_unify.specs.Part.{p_field}
 use Rattle.fx_unify.specs.Part.{field_node}
 use Rattle.fx_unify.proofs.SolvingLaws.{type_is}
