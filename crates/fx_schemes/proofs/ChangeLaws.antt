@@ -19,7 +19,7 @@ duplicated y c r = from_tables r (codes "column" ∷ codes "as" ∷ []) [] [] (g
 
 pub duplicates_law : (x y : Label)
     → IsSchemeOf (λ L. (r : GroundRow) × (c : Ground) × IsKind c × Has r x c × (L ≡ duplicated y c r)) (duplicates x y)
-duplicates_law x y = built _ _ refl refl (lit≤ tt) (inr (inl refl), tt) (λ L. (
+duplicates_law x y = built _ _ (lit≤ tt) refl (lit≤ tt) (inr (inl refl), tt) (λ L. (
   λ h. (_, h.0.type_of 0, h.1.0, has_put x _ (h.0.row_of 0), h.2),
   λ d. (solution d.1 d.0, (d.2, tt), d.4 ∙ moved x (g_is d.1) d.0 (duplicated y d.1) d.3),
 ))
@@ -29,7 +29,7 @@ sets x = over_tables (codes "key" ∷ []) ((codes "value", simple.Text) ∷ []) 
 
 pub sets_law : (x : Label)
     → IsSchemeOf (λ L. (r : GroundRow) × (L ≡ from_tables r (codes "key" ∷ []) ((codes "value", g_text) ∷ []) [] (g_stream (put x g_text r)))) (sets x)
-sets_law x = built _ _ refl refl (lit≤ tt) tt (λ L. (λ h. (h.0.row_of 0, h.2), λ d. (solution g_int d.0, tt, d.1)))
+sets_law x = built _ _ (lit≤ tt) refl (lit≤ tt) tt (λ L. (λ h. (h.0.row_of 0, h.2), λ d. (solution g_int d.0, tt, d.1)))
 
 abbrev pub fills : Label → Scheme
 fills x = over_tables (codes "column" ∷ []) ((codes "value", simple.Var 0) ∷ []) [] 1 bound.Column ((x, Some (simple.Var 0)) ∷ []) []
@@ -38,13 +38,13 @@ abbrev filled : Ground → GroundRow → Line
 filled c r = from_tables r (codes "column" ∷ []) ((codes "value", c) ∷ []) [] (g_stream r)
 
 pub fills_law : (x : Label) → IsSchemeOf (λ L. (r : GroundRow) × (c : Ground) × IsKind c × Has r x c × (L ≡ filled c r)) (fills x)
-fills_law x = built _ _ refl refl (lit≤ tt) (inr (inl refl), tt) (λ L. (
+fills_law x = built _ _ (lit≤ tt) refl (lit≤ tt) (inr (inl refl), tt) (λ L. (
   λ h. (_, h.0.type_of 0, h.1.0, has_put x _ (h.0.row_of 0), h.2),
   λ d. (solution d.1 d.0, (d.2, tt), d.4 ∙ moved x (g_is d.1) d.0 (filled d.1) d.3),
 ))
 
 pub part_law : IsSchemeOf OfPart (over_tables [] ((codes "n", simple.Int) ∷ []) ((codes "offset", simple.Int) ∷ []) 1 bound.Free [] [])
-part_law = built _ _ refl refl (lit≤ tt) tt (λ L. (λ h. (h.0.row_of 0, h.2), λ d. (solution g_int d.0, tt, d.1)))
+part_law = built _ _ (lit≤ tt) refl (lit≤ tt) tt (λ L. (λ h. (h.0.row_of 0, h.2), λ d. (solution g_int d.0, tt, d.1)))
 
 abbrev pub steps : Label → Scheme
 steps x = over_tables (codes "columns" ∷ []) [] [] 1 bound.Free ((x, Some simple.Int) ∷ []) []
@@ -53,7 +53,7 @@ abbrev stepped : GroundRow → Line
 stepped r = from_tables r (codes "columns" ∷ []) [] [] (g_stream r)
 
 pub steps_law : (x : Label) → IsSchemeOf (λ L. (r : GroundRow) × Has r x g_int × (L ≡ stepped r)) (steps x)
-steps_law x = built _ _ refl refl (lit≤ tt) tt (λ L. (
+steps_law x = built _ _ (lit≤ tt) refl (lit≤ tt) tt (λ L. (
   λ h. (_, has_put x _ (h.0.row_of 0), h.2),
   λ d. (solution g_int d.0, tt, d.2 ∙ moved x (g_is g_int) d.0 stepped d.1),
 ))
@@ -66,7 +66,7 @@ abbrev elapsed : Label → GroundRow → Line
 elapsed y r = from_tables r (codes "timeColumn" ∷ codes "columnName" ∷ []) [] ((codes "unit", g_span) ∷ []) (g_stream (put y g_int r))
 
 pub elapses_law : (x y : Label) → IsSchemeOf (λ L. (r : GroundRow) × Has r x g_time × (L ≡ elapsed y r)) (elapses x y)
-elapses_law x y = built _ _ refl refl (lit≤ tt) tt (λ L. (
+elapses_law x y = built _ _ (lit≤ tt) refl (lit≤ tt) tt (λ L. (
   λ h. (_, has_put x _ (h.0.row_of 0), h.2),
   λ d. (solution g_int d.0, tt, d.2 ∙ moved x (g_is g_time) d.0 (elapsed y) d.1),
 ))

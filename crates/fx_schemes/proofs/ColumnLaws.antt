@@ -27,7 +27,7 @@ abbrev pub counts : Label → Scheme
 counts x = at_column bound.Column ((x, Some (simple.Var 0)) ∷ []) ((x, Some simple.Int) ∷ (codes "_time", None) ∷ [])
 
 pub counts_law : (x : Label) → IsSchemeOf (AtColumn Counts x) (counts x)
-counts_law x = built _ _ refl refl (lit≤ tt) (inr (inl refl), tt) (λ L. (
+counts_law x = built _ _ (lit≤ tt) refl (lit≤ tt) (inr (inl refl), tt) (λ L. (
   λ h. (_, _, (h.0.type_of 0, h.1.0, has_put x _ (h.0.row_of 0), refl), h.2),
   λ d. (
     solution d.2.0 d.0,
@@ -40,7 +40,7 @@ abbrev pub sums : Label → Scheme
 sums x = at_column bound.Free ((x, Some simple.Int) ∷ []) ((x, Some simple.Int) ∷ (codes "_time", None) ∷ [])
 
 pub sums_law : (x : Label) → IsSchemeOf (AtColumn Sums x) (sums x)
-sums_law x = built _ _ refl refl (lit≤ tt) tt (λ L. (
+sums_law x = built _ _ (lit≤ tt) refl (lit≤ tt) tt (λ L. (
   λ h. (_, _, (has_put x _ (h.0.row_of 0), refl), h.2),
   λ d. (
     solution g_int d.0,
@@ -53,7 +53,7 @@ abbrev pub distincts : Label → Scheme
 distincts x = at_column bound.Column ((x, Some (simple.Var 0)) ∷ []) ((codes "_value", Some (simple.Var 0)) ∷ (codes "_time", None) ∷ [])
 
 pub distincts_law : (x : Label) → IsSchemeOf (AtColumn Distincts x) (distincts x)
-distincts_law x = built _ _ refl refl (lit≤ tt) (inr (inl refl), tt) (λ L. (
+distincts_law x = built _ _ (lit≤ tt) refl (lit≤ tt) (inr (inl refl), tt) (λ L. (
   λ h. (_, _, (h.0.type_of 0, h.1.0, has_put x _ (h.0.row_of 0), refl), h.2),
   λ d. (
     solution d.2.0 d.0,
@@ -66,13 +66,13 @@ abbrev pub selects : kinds.Bound → Label → Scheme
 selects b x = at_column b ((x, Some (simple.Var 0)) ∷ []) []
 
 pub extremes_law : (x : Label) → IsSchemeOf (AtColumn Extremes x) (selects bound.Ordered x)
-extremes_law x = built _ _ refl refl (lit≤ tt) (inl refl, tt) (λ L. (
+extremes_law x = built _ _ (lit≤ tt) refl (lit≤ tt) (inl refl, tt) (λ L. (
   λ h. (_, _, (h.0.type_of 0, h.1.0, has_put x _ (h.0.row_of 0), refl), h.2),
   λ d. (solution d.2.0 d.0, (d.2.1, tt), d.3 ∙ ap (to_row d.0) d.2.3 ∙ moved x (g_is d.2.0) d.0 (λ r. to_row r r) d.2.2),
 ))
 
 pub ends_law : (x : Label) → IsSchemeOf (AtColumn Ends x) (selects bound.Column x)
-ends_law x = built _ _ refl refl (lit≤ tt) (inr (inl refl), tt) (λ L. (
+ends_law x = built _ _ (lit≤ tt) refl (lit≤ tt) (inr (inl refl), tt) (λ L. (
   λ h. (_, _, (h.0.type_of 0, h.1.0, has_put x _ (h.0.row_of 0), refl), h.2),
   λ d. (solution d.2.0 d.0, (d.2.1, tt), d.3 ∙ ap (to_row d.0) d.2.3 ∙ moved x (g_is d.2.0) d.0 (λ r. to_row r r) d.2.2),
 ))

@@ -2,10 +2,9 @@
 use Rattle.std.proofs.Common.{◌≡◌, refl, sym, subst, ◌∙◌, ◌≤◌, Bool, true, false, ◌&&◌, List, [], ◌∷◌}
 use Rattle.std.specs.Prelude.{if◌then◌else◌}
 use Rattle.std.proofs.lemmas.Bool.{and_parts}
-use mathlib.Core.Bool.{true≢false}
 use Rattle.fx_base.specs.Text.{same_text}
 use Rattle.fx_types.specs.Term.{Label, Term, bool, int, text, time, span, pattern, done, type_variable, array, fun, rec, stream, Labels, no_labels, more_labels, Pipe, no_pipe, by_pipe, Fields, no_fields, more_fields, Tail, default, row_variable}
-use Rattle.fx_types.specs.Ground.{GroundField, g_bool, g_int, g_text, g_time, g_span, g_pattern, g_done, g_array, g_fun, g_rec, g_stream, g_absent, g_is, is_plain, listed, IsWellFormed, IsWellFormedField}
+use Rattle.fx_types.specs.Ground.{GroundField, g_absent, g_is, is_plain, listed, IsWellFormed, IsWellFormedField}
 use Rattle.fx_types.specs.Instance.{ground, ground_field, ground_fields, ground_labels, ground_pipe, ground_tail, plainest}
 use Rattle.fx_types.specs.Size.{IsType}
 use Rattle.fx_types.proofs.Choices.{passed, neither}

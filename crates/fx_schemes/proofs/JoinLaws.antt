@@ -28,7 +28,7 @@ times =
     (stream no_fields (row_variable 2))
 
 pub times_law : IsSchemeOf OfTimes times
-times_law = built _ _ refl refl (lit≤ tt) tt (λ L. (
+times_law = built _ _ (lit≤ tt) refl (lit≤ tt) tt (λ L. (
   λ h. (
     timed (h.0.row_of 0),
     has_put (codes "_time") (g_is g_time) (h.0.row_of 0),

@@ -1,12 +1,12 @@
 -- Rows with listed columns: the schemes of what works on lists of columns, and their lines.
-use Rattle.std.proofs.Common.{◌≡◌, refl, sym, ap, ◌∙◌, ℕ, zero, suc, ◌+◌, ◌≤◌, Bool, true, false, ◌&&◌, List, [], ◌∷◌, ◌++◌, length, get_or, None, add-zero, lit≤, arith}
-use Rattle.std.specs.Prelude.{codes, if◌then◌else◌, nat_lt}
-use Rattle.std.proofs.lemmas.Bool.{lt-ltb, and_from}
+use Rattle.std.proofs.Common.{◌≡◌, refl, sym, ap, ◌∙◌, ℕ, zero, suc, ◌+◌, ◌≤◌, Bool, true, false, List, [], ◌∷◌, ◌++◌, length, get_or, None, add-zero, lit≤, arith}
+use Rattle.std.specs.Prelude.{codes, if◌then◌else◌}
 use mathlib.Core.Bool.{true≢false}
 use Rattle.fx_base.specs.Text.{same_text}
 use Rattle.fx_types.specs.Term.{Label}
 use Rattle.fx_types.specs.Ground.{Ground, GroundField, GroundRow, g_bool, g_int, g_absent, g_is, g_stream, listed}
 use Rattle.fx_types.specs.Instance.{Solution, ground_field, ground_fields}
+use Rattle.fx_types.specs.Numbers.{numbers_fields}
 use Rattle.fx_types.proofs.Choices.{by_cases, chosen, passed, either_also}
 use Rattle.fx_types.proofs.RowSums.{same_itself}
 use Rattle.fx_schemes.specs.declared.simple.Simple.TheVariants as simple
@@ -14,7 +14,7 @@ use Rattle.fx_schemes.specs.declared.simple.Bound.TheVariants as bound
 use Rattle.fx_schemes.specs.Line.{Line, replaced, HasAll, kept, without, from_tables}
 use Rattle.fx_schemes.specs.Builtins.{OfGroup, OfSort, OfKeep, OfDrop}
 use Rattle.fx_schemes.specs.Plan.{Cell, Param, cell_field, fields_in, columns_from, absents}
-use Rattle.fx_schemes.specs.Scheme.{Scheme, IsSchemeOf, below_fields}
+use Rattle.fx_schemes.specs.Scheme.{Scheme, IsSchemeOf}
 use Rattle.fx_schemes.proofs.RowLaws.{same_row, put_same}
 use Rattle.fx_schemes.proofs.SchemeLaws.{built, solution, over_tables, closed_tables}
 use Rattle.fx_schemes.proofs.Sizes.{tidy_fields}
@@ -120,28 +120,25 @@ cleared_is s xs r = same_row (celled s (absents xs) r) (without xs r) (cleared_a
 
 -- numbers and nodes
 
-pub columns_below : (xs : List Label) (k n : ℕ) → k + length xs ≤ n → below_fields n (fields_in (columns_from k xs)) ≡ true
-columns_below [] k n le = refl
+pub columns_below : (xs : List Label) (k n : ℕ) → k + length xs ≤ n → numbers_fields (fields_in (columns_from k xs)) ≤ n
+columns_below [] k n le = omega arith
 columns_below (x ∷ xs) k n le =
-    and_from (nat_lt k n) (below_fields n (fields_in (columns_from (k + 1) xs))) (lt-ltb k n (omega arith)) (columns_below xs (k + 1) n (omega arith))
+    let rest : numbers_fields (fields_in (columns_from (k + 1) xs)) ≤ n = columns_below xs (k + 1) n (omega arith) in
+    omega arith
 
 pub columns_tidy : (xs : List Label) (k : ℕ) → tidy_fields (fields_in (columns_from k xs)) ≡ true
 columns_tidy [] k = refl
 columns_tidy (x ∷ xs) k = columns_tidy xs (k + 1)
 
-pub absents_below : (xs : List Label) (n : ℕ) → below_fields n (fields_in (absents xs)) ≡ true
-absents_below [] n = refl
-absents_below (x ∷ xs) n = absents_below xs n
+pub absents_below : (xs : List Label) (n : ℕ) → numbers_fields (fields_in (absents xs)) ≤ n
+absents_below [] n = omega arith
+absents_below (x ∷ xs) n = let rest : numbers_fields (fields_in (absents xs)) ≤ n = absents_below xs n in omega arith
 
 pub absents_tidy : (xs : List Label) → tidy_fields (fields_in (absents xs)) ≡ true
 absents_tidy [] = refl
 absents_tidy (x ∷ xs) = absents_tidy xs
 
--- row variable 0 has room
-pub first_below : (n : ℕ) → nat_lt 0 (n + 1) ≡ true
-first_below n = lt-ltb 0 (n + 1) (omega arith)
-
-pub columns_fit : (xs : List Label) → below_fields (length xs + 1) (fields_in (columns_from 1 xs)) ≡ true
+pub columns_fit : (xs : List Label) → numbers_fields (fields_in (columns_from 1 xs)) ≤ length xs + 1
 columns_fit xs = columns_below xs 1 (length xs + 1) (omega arith)
 
 -- `group` and `sort`
@@ -153,7 +150,7 @@ abbrev pub group_labels : List Label
 group_labels = codes "columns" ∷ codes "mode" ∷ []
 
 pub group_law : (xs : List Label) → IsSchemeOf (OfGroup xs) (asks group_labels [] xs)
-group_law xs = built _ _ (rw (columns_fit xs, first_below (length xs)) refl) (rw (columns_tidy xs 1) refl) (lit≤ tt) tt (λ L. (
+group_law xs = built _ _ (omega (arith, columns_fit xs)) (rw (columns_tidy xs 1) refl) (lit≤ tt) tt (λ L. (
   λ h. (celled h.0 (columns_from 1 xs) (h.0.row_of 0), all_present h.0 xs 1 (h.0.row_of 0), h.2),
   λ d. (
     list_solution g_int xs d.0,
@@ -166,7 +163,7 @@ abbrev pub descending : List Param
 descending = (codes "desc", simple.Bool) ∷ []
 
 pub sort_law : (xs : List Label) → IsSchemeOf (OfSort xs) (asks (codes "columns" ∷ []) descending xs)
-sort_law xs = built _ _ (rw (columns_fit xs, first_below (length xs)) refl) (rw (columns_tidy xs 1) refl) (lit≤ tt) tt (λ L. (
+sort_law xs = built _ _ (omega (arith, columns_fit xs)) (rw (columns_tidy xs 1) refl) (lit≤ tt) tt (λ L. (
   λ h. (celled h.0 (columns_from 1 xs) (h.0.row_of 0), all_present h.0 xs 1 (h.0.row_of 0), h.2),
   λ d. (
     list_solution g_int xs d.0,
@@ -186,7 +183,7 @@ abbrev pub keeps : List Label → Scheme
 keeps xs = closed_tables (codes "columns" ∷ []) [] [] (length xs + 1) bound.Free (columns_from 1 xs) (columns_from 1 xs) None
 
 pub keep_law : (xs : List Label) → IsSchemeOf (OfKeep xs) (keeps xs)
-keep_law xs = built _ _ (rw (columns_fit xs, first_below (length xs)) refl) (rw (columns_tidy xs 1) refl) (lit≤ tt) tt (λ L. (
+keep_law xs = built _ _ (omega (arith, columns_fit xs)) (rw (columns_tidy xs 1) refl) (lit≤ tt) tt (λ L. (
   λ h.
       let r : GroundRow = celled h.0 (columns_from 1 xs) (h.0.row_of 0) in
       (r, all_present h.0 xs 1 (h.0.row_of 0), h.2 ∙ ap (by_columns r) (kept_is h.0 xs 1 (h.0.row_of 0) g_absent)),
@@ -210,7 +207,7 @@ appended_none (x ∷ xs) = ap (λ ys. x ∷ ys) (appended_none xs)
 
 pub drop_law : (xs : List Label) → IsSchemeOf (OfDrop xs) (drops xs)
 drop_law xs =
-    rw (appended_none (absents xs)) (built _ _ (rw (absents_below xs 1) refl) (rw (absents_tidy xs) refl) (lit≤ tt) tt (λ L. (
+    rw (appended_none (absents xs)) (built _ _ (omega (arith, absents_below xs 1)) (rw (absents_tidy xs) refl) (lit≤ tt) tt (λ L. (
       λ h. (h.0.row_of 0, h.2 ∙ ap (by_columns (h.0.row_of 0)) (cleared_is h.0 xs (h.0.row_of 0))),
       λ d. (solution g_int d.0, tt, d.1 ∙ ap (by_columns d.0) (sym (cleared_is (solution g_int d.0) xs d.0))),
     )))

@@ -1,5 +1,5 @@
 -- `rename`: its scheme, and its lines.
-use Rattle.std.proofs.Common.{◌≡◌, refl, sym, ap, ◌∙◌, ℕ, ◌+◌, ◌==◌, Bool, true, false, ◌&&◌, List, [], ◌∷◌, ◌++◌, length, lit≤, arith}
+use Rattle.std.proofs.Common.{◌≡◌, refl, sym, ap, ◌∙◌, ℕ, ◌+◌, ◌==◌, Bool, true, false, ◌&&◌, List, [], ◌∷◌, ◌++◌, length, lit≤, arith, ◌≤◌}
 use Rattle.std.specs.Prelude.{codes}
 use Rattle.std.specs.Cmp.Lexicographic.{nat_list_eq_equiv}
 use Rattle.std.proofs.lemmas.Bool.{and_parts, eqb-true, and_from}
@@ -7,13 +7,14 @@ use Rattle.fx_base.specs.Text.{same_text}
 use Rattle.fx_types.specs.Term.{Label}
 use Rattle.fx_types.specs.Ground.{GroundField, GroundRow, g_int, g_is, g_stream, is_plain, listed}
 use Rattle.fx_types.specs.Instance.{Solution, ground_field, plainest}
+use Rattle.fx_types.specs.Numbers.{numbers_fields}
 use Rattle.fx_types.proofs.Choices.{passed, neither}
 use Rattle.fx_schemes.specs.declared.simple.Bound.TheVariants as bound
 use Rattle.fx_schemes.specs.Line.{Line, replaced, without, named, from_tables}
 use Rattle.fx_schemes.specs.Builtins.{OfRename, differ, are_names}
 use Rattle.fx_schemes.specs.Plan.{Cell, columns_from, absents, fields_in, cell_field}
-use Rattle.fx_schemes.specs.Scheme.{Scheme, IsSchemeOf, below_field, below_fields}
-use Rattle.fx_schemes.proofs.ListLaws.{celled, AllAgree, cells_same, list_solution, agreed, all_present, cleared_is, first_below, columns_fit, columns_below, columns_tidy, absents_below, absents_tidy}
+use Rattle.fx_schemes.specs.Scheme.{Scheme, IsSchemeOf}
+use Rattle.fx_schemes.proofs.ListLaws.{celled, AllAgree, cells_same, list_solution, agreed, all_present, cleared_is, columns_fit, columns_below, columns_tidy, absents_below, absents_tidy}
 use Rattle.fx_schemes.proofs.RowLaws.{has_put, not_first, not_more}
 use Rattle.fx_schemes.proofs.SchemeLaws.{built, over_tables}
 use Rattle.fx_schemes.proofs.Sizes.{tidy_fields}
@@ -23,11 +24,9 @@ pub celled_append : (s : Solution) (a b : List Cell) (r : GroundRow) → celled 
 celled_append s [] b r = refl
 celled_append s (c ∷ a) b r = ap (replaced c.0 (ground_field s (cell_field c.1))) (celled_append s a b r)
 
-pub below_append : (n : ℕ) (a b : List Cell) → below_fields n (fields_in a) ≡ true → below_fields n (fields_in b) ≡ true → below_fields n (fields_in (a ++ b)) ≡ true
+pub below_append : (n : ℕ) (a b : List Cell) → numbers_fields (fields_in a) ≤ n → numbers_fields (fields_in b) ≤ n → numbers_fields (fields_in (a ++ b)) ≤ n
 below_append n [] b e h = h
-below_append n (c ∷ a) b e h =
-    let parts = and_parts (below_field n (cell_field c.1)) (below_fields n (fields_in a)) e in
-    and_from (below_field n (cell_field c.1)) (below_fields n (fields_in (a ++ b))) parts.0 (below_append n a b parts.1 h)
+below_append n (c ∷ a) b e h = let rest : numbers_fields (fields_in (a ++ b)) ≤ n = below_append n a b (omega arith) h in omega arith
 
 abbrev plain_cell : Cell → Bool
 plain_cell c = is_plain (ground_field plainest (cell_field c.1))
@@ -88,7 +87,7 @@ made_is s olds news r len h =
     ∙ ap (celled s (columns_from 1 news)) (cleared_is s olds q)
     ∙ named_is s olds news 1 q (without olds q) h len
 
-made_below : (olds news : List Label) → length olds ≡ length news → below_fields (length olds + 1) (fields_in (made olds news ++ columns_from 1 olds)) ≡ true
+made_below : (olds news : List Label) → length olds ≡ length news → numbers_fields (fields_in (made olds news ++ columns_from 1 olds)) ≤ length olds + 1
 made_below olds news len =
     below_append (length olds + 1) (made olds news) (columns_from 1 olds)
     (below_append (length olds + 1) (columns_from 1 news) (absents olds) (columns_below news 1 (length olds + 1) (omega (arith, len))) (absents_below olds (length olds + 1)))
@@ -105,7 +104,7 @@ rename_law olds news ok =
     let parts = and_parts (length olds == length news) (differ olds && differ news) ok in
     let len : length olds ≡ length news = eqb-true (length olds) (length news) parts.0 in
     let apart : differ olds ≡ true = (and_parts (differ olds) (differ news) parts.1).0 in
-    built _ _ (rw (columns_fit olds, made_below olds news len, first_below (length olds)) refl) (rw (columns_tidy olds 1, made_tidy olds news) refl) (lit≤ tt) tt (λ L. (
+    built _ _ (omega (arith, columns_fit olds, made_below olds news len)) (rw (columns_tidy olds 1, made_tidy olds news) refl) (lit≤ tt) tt (λ L. (
       λ h.
           let r : GroundRow = celled h.0 (columns_from 1 olds) (h.0.row_of 0) in (
             r,

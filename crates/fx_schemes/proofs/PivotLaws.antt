@@ -1,5 +1,5 @@
 -- `pivot`: its scheme, and its lines.
-use Rattle.std.proofs.Common.{◌≡◌, refl, sym, ap, subst, ◌∙◌, ℕ, ◌+◌, Bool, true, false, ◌&&◌, List, [], ◌∷◌, ◌++◌, length, Some, inl, inr, lit≤}
+use Rattle.std.proofs.Common.{◌≡◌, refl, sym, ap, subst, ◌∙◌, ℕ, ◌+◌, true, false, ◌&&◌, List, [], ◌∷◌, ◌++◌, length, Some, inl, inr, lit≤, ◌≤◌, arith}
 use Rattle.std.specs.Prelude.{codes, not}
 use Rattle.std.proofs.lemmas.Bool.{and_parts, not-true}
 use mathlib.Core.Bool.{true≢false}
@@ -7,6 +7,7 @@ use Rattle.fx_base.specs.Text.{same_text}
 use Rattle.fx_types.specs.Term.{Label}
 use Rattle.fx_types.specs.Ground.{Ground, GroundRow, g_text, g_is, g_stream, listed}
 use Rattle.fx_types.specs.Instance.{Solution}
+use Rattle.fx_types.specs.Numbers.{numbers_fields}
 use Rattle.fx_types.proofs.Choices.{by_cases, chosen, passed, neither, either_also, never}
 use Rattle.fx_types.proofs.RowSums.{same_is, same_itself}
 use Rattle.fx_schemes.specs.declared.simple.Simple.TheVariants as simple
@@ -14,8 +15,8 @@ use Rattle.fx_schemes.specs.declared.simple.Bound.TheVariants as bound
 use Rattle.fx_schemes.specs.Line.{Line, put, EachIs, kept, from_tables}
 use Rattle.fx_schemes.specs.Builtins.{OfPivot, apart, are_apart}
 use Rattle.fx_schemes.specs.Plan.{Cell, columns_from, all_texts, fields_in}
-use Rattle.fx_schemes.specs.Scheme.{Scheme, IsSchemeOf, below_fields}
-use Rattle.fx_schemes.proofs.ListLaws.{celled, AllAgree, cells_same, list_solution, agreed, present_at, has_all, kept_is, first_below, columns_fit, columns_tidy}
+use Rattle.fx_schemes.specs.Scheme.{Scheme, IsSchemeOf}
+use Rattle.fx_schemes.proofs.ListLaws.{celled, AllAgree, cells_same, list_solution, agreed, present_at, has_all, kept_is, columns_fit, columns_tidy}
 use Rattle.fx_schemes.proofs.NameLaws.{celled_append, below_append, tidy_append}
 use Rattle.fx_schemes.proofs.RowLaws.{has_put, not_first, not_more}
 use Rattle.fx_schemes.proofs.SchemeLaws.{built, closed_tables}
@@ -79,21 +80,18 @@ pivot_labels = codes "rowKey" ∷ codes "columnKey" ∷ codes "valueColumn" ∷ 
 abbrev pub pivots : List Label → List Label → Label → Scheme
 pivots xs ys z = closed_tables pivot_labels [] [] (length xs + 1) bound.Column (asked xs ys z) (columns_from 1 xs) (Some (simple.Var 0))
 
-texts_below : (ys : List Label) (n : ℕ) → below_fields n (fields_in (all_texts ys)) ≡ true
-texts_below [] n = refl
-texts_below (y ∷ ys) n = texts_below ys n
+texts_below : (ys : List Label) (n : ℕ) → numbers_fields (fields_in (all_texts ys)) ≤ n
+texts_below [] n = omega arith
+texts_below (y ∷ ys) n = let rest : numbers_fields (fields_in (all_texts ys)) ≤ n = texts_below ys n in omega arith
 
 texts_tidy : (ys : List Label) → tidy_fields (fields_in (all_texts ys)) ≡ true
 texts_tidy [] = refl
 texts_tidy (y ∷ ys) = texts_tidy ys
 
-value_below : (n : ℕ) (z : Label) → below_fields (n + 1) (fields_in ((z, Some (simple.Var 0)) ∷ [])) ≡ true
-value_below n z = rw (first_below n) refl
-
-asked_below : (xs ys : List Label) (z : Label) → below_fields (length xs + 1) (fields_in (asked xs ys z)) ≡ true
+asked_below : (xs ys : List Label) (z : Label) → numbers_fields (fields_in (asked xs ys z)) ≤ length xs + 1
 asked_below xs ys z =
     below_append (length xs + 1) (columns_from 1 xs) (others ys z) (columns_fit xs)
-    (below_append (length xs + 1) (all_texts ys) ((z, Some (simple.Var 0)) ∷ []) (texts_below ys (length xs + 1)) (value_below (length xs) z))
+    (below_append (length xs + 1) (all_texts ys) ((z, Some (simple.Var 0)) ∷ []) (texts_below ys (length xs + 1)) (omega arith))
 
 asked_tidy : (xs ys : List Label) (z : Label) → tidy_fields (fields_in (asked xs ys z)) ≡ true
 asked_tidy xs ys z =
@@ -117,7 +115,7 @@ pivot_law xs ys z ok =
     let lone = and_parts (not (listed z xs)) (not (listed z ys)) parts.1 in
     let off_keys : listed z xs ≡ false = not-true (listed z xs) lone.0 in
     let off_names : listed z ys ≡ false = not-true (listed z ys) lone.1 in
-    built _ _ (rw (asked_below xs ys z, columns_fit xs, first_below (length xs)) refl) (rw (asked_tidy xs ys z, columns_tidy xs 1) refl) (lit≤ tt)
+    built _ _ (omega (arith, asked_below xs ys z, columns_fit xs)) (rw (asked_tidy xs ys z, columns_tidy xs 1) refl) (lit≤ tt)
     (inr (inl refl), tt) (λ L. (
       λ h.
           let s : Solution = h.0 in

@@ -16,10 +16,10 @@ use Rattle.fx_schemes.specs.Plan.{labelled, cell_field, call_scheme, Cell, Param
 use Rattle.fx_schemes.specs.declared.simple.Bound as kinds
 use Rattle.fx_schemes.proofs.FormLaws.{plain_type}
 use Rattle.fx_schemes.proofs.Sizes.{tidy, most}
-use Rattle.fx_schemes.specs.Scheme.{Scheme, shown, instance, Keeps, IsInstance, all_below, IsSchemeOf, Says}
+use Rattle.fx_schemes.specs.Scheme.{Scheme, shown, instance, Keeps, IsInstance, numbers_of, IsSchemeOf, Says}
 
 -- by a solution that keeps the bounds, and a term whose plainest instance is the type that it gives
-pub built_by : (X : Scheme) (D : Line → Type 0) → all_below X ≡ true → (s : Solution) → Keeps s X.kinds
+pub built_by : (X : Scheme) (D : Line → Type 0) → numbers_of X ≤ X.vars → (s : Solution) → Keeps s X.kinds
     → (t : Term) → tidy t ≡ true → most t ≤ 4096 → ground plainest t ≡ ground s X.type
     → ((L : Line) → IsInstance X L ↔ D L) → IsSchemeOf D X
 built_by X D numbered s keeps t tidied few same lines = record {
@@ -28,7 +28,7 @@ built_by X D numbered s keeps t tidied few same lines = record {
   some = (instance s X, (lines (instance s X)).0 (s, keeps, refl), subst IsType same (plain_type t tidied few));
 }
 
-pub built : (X : Scheme) (D : Line → Type 0) → all_below X ≡ true → tidy X.type ≡ true → most X.type ≤ 4096 → Keeps plainest X.kinds
+pub built : (X : Scheme) (D : Line → Type 0) → numbers_of X ≤ X.vars → tidy X.type ≡ true → most X.type ≤ 4096 → Keeps plainest X.kinds
     → ((L : Line) → IsInstance X L ↔ D L) → IsSchemeOf D X
 built X D numbered tidied few keeps lines = built_by X D numbered plainest keeps X.type tidied few refl lines
 
@@ -134,7 +134,7 @@ by_scheme D (Ok t) X e h = subst (IsSchemeOf D) (sym e) h
 by_scheme D (Err fault) X e h = tt
 
 -- a scheme whose one line hangs on no variable
-pub fixed : (X : Scheme) (K : Line) → all_below X ≡ true → tidy X.type ≡ true → most X.type ≤ 4096 → ((s : Solution) → Keeps s X.kinds)
+pub fixed : (X : Scheme) (K : Line) → numbers_of X ≤ X.vars → tidy X.type ≡ true → most X.type ≤ 4096 → ((s : Solution) → Keeps s X.kinds)
     → ((s : Solution) → instance s X ≡ K) → IsSchemeOf (λ L. L ≡ K) X
 fixed X K numbered tidied few keeps same =
     built X (λ L. L ≡ K) numbered tidied few (keeps plainest) (λ L. (

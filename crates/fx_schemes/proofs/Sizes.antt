@@ -2,8 +2,8 @@
 use Rattle.std.proofs.Common.{◌≡◌, refl, ℕ, ◌+◌, ◌≤◌, ◌^◌, ◌-◌, Bool, true, false, ◌&&◌, List, [], ◌∷◌, ◌++◌, arith}
 use Rattle.std.specs.Prelude.{if◌then◌else◌}
 use Rattle.std.proofs.lemmas.Bool.{and_parts}
-use Rattle.fx_types.specs.Term.{Label, Term, bool, int, text, time, span, pattern, done, type_variable, array, fun, rec, stream, Labels, no_labels, more_labels, Pipe, no_pipe, by_pipe, Field, absent, is, field_variable, Fields, no_fields, more_fields, Tail, default, row_variable}
-use Rattle.fx_types.specs.Ground.{is_column, is_plain, listed}
+use Rattle.fx_types.specs.Term.{Label, Term, bool, int, text, time, span, pattern, done, type_variable, array, fun, rec, stream, Labels, no_labels, more_labels, Pipe, no_pipe, by_pipe, Fields, no_fields, more_fields, Tail, default, row_variable}
+use Rattle.fx_types.specs.Ground.{is_plain, listed}
 use Rattle.fx_types.specs.Instance.{ground, ground_field, plainest}
 use Rattle.fx_types.specs.Nodes.{nodes, nodes_labels, nodes_pipe, nodes_field, nodes_fields, nodes_tail}
 use Rattle.fx_types.specs.Size.{AtMost}

@@ -52,7 +52,7 @@ bounds_and cs = (codes "_time", Some simple.Time) ∷ (codes "_start", Some simp
 
 pub window_law : IsSchemeOf (IsLine b.Window []) (over_tables [] ((codes "every", simple.Span) ∷ []) ((codes "period", simple.Span) ∷ []) 1 bound.Free (bounds_and []) [])
 unfolding IsLine
-window_law = built _ _ refl refl (lit≤ tt) tt (λ L. (
+window_law = built _ _ (lit≤ tt) refl (lit≤ tt) tt (λ L. (
   λ h. (_, (refl, refl, refl), h.2),
   λ d. (
     solution g_int d.0,
@@ -75,7 +75,7 @@ ranged start stop r =
 pub range_law : IsSchemeOf (IsLine b.Range []) (moments (simple.Var 0) (simple.Var 1) bound.Moments)
 unfolding IsLine
 range_law =
-    built_by _ _ refl (solution g_time (λ l. g_absent)) (inl refl, (inl refl, tt)) (moments simple.Time simple.Time bound.Free).type refl (lit≤ tt) refl (λ L. (
+    built_by _ _ (lit≤ tt) (solution g_time (λ l. g_absent)) (inl refl, (inl refl, tt)) (moments simple.Time simple.Time bound.Free).type refl (lit≤ tt) refl (λ L. (
       λ h. (_, has_put (codes "_time") (g_is g_time) (h.0.row_of 0), h.0.type_of 0, h.1.0, h.0.type_of 1, h.1.1.0, h.2),
       λ d. (
         record { type_of = type_at d.2 d.4; field_of = λ n. g_absent; row_of = λ n. d.0 },
@@ -108,7 +108,7 @@ retimed : (r : GroundRow) → timed (put (codes "_value") g_int r) ≡ timed (co
 retimed r = hidden (codes "_time") (codes "_value") (g_is g_time) (g_is g_int) g_absent r
 
 pub counted_law : IsSchemeOf (OfWindows Counts) (of_windows bound.Column (simple.Var 0) ((codes "_value", Some simple.Int) ∷ []))
-counted_law = built _ _ refl refl (lit≤ tt) (inr (inl refl), tt) (λ L. (
+counted_law = built _ _ (lit≤ tt) refl (lit≤ tt) (inr (inl refl), tt) (λ L. (
   λ h.
       let r : GroundRow = bounded (put (codes "_value") (h.0.type_of 0) (h.0.row_of 0)) in
       (r, counted r, (refl, refl, refl), (h.0.type_of 0, h.1.0, refl, refl), h.2 ∙ ap (to_row r) (retimed r)),
@@ -123,7 +123,7 @@ counted_law = built _ _ refl refl (lit≤ tt) (inr (inl refl), tt) (λ L. (
 ))
 
 pub summed_law : IsSchemeOf (OfWindows Sums) (of_windows bound.Free simple.Int ((codes "_value", Some simple.Int) ∷ []))
-summed_law = built _ _ refl refl (lit≤ tt) tt (λ L. (
+summed_law = built _ _ (lit≤ tt) refl (lit≤ tt) tt (λ L. (
   λ h.
       let r : GroundRow = bounded (put (codes "_value") g_int (h.0.row_of 0)) in
       (r, counted r, (refl, refl, refl), (refl, refl), h.2 ∙ ap (to_row r) (retimed r)),
@@ -138,7 +138,7 @@ summed_law = built _ _ refl refl (lit≤ tt) tt (λ L. (
 ))
 
 pub extremes_law : IsSchemeOf (OfWindows Extremes) (of_windows bound.Ordered (simple.Var 0) [])
-extremes_law = built _ _ refl refl (lit≤ tt) (inl refl, tt) (λ L. (
+extremes_law = built _ _ (lit≤ tt) refl (lit≤ tt) (inl refl, tt) (λ L. (
   λ h. (_, _, (refl, refl, refl), (h.0.type_of 0, h.1.0, refl, refl), h.2),
   λ d. (
     solution d.3.0 d.0,
@@ -148,7 +148,7 @@ extremes_law = built _ _ refl refl (lit≤ tt) (inl refl, tt) (λ L. (
 ))
 
 pub ends_law : IsSchemeOf (OfWindows Ends) (of_windows bound.Column (simple.Var 0) [])
-ends_law = built _ _ refl refl (lit≤ tt) (inr (inl refl), tt) (λ L. (
+ends_law = built _ _ (lit≤ tt) refl (lit≤ tt) (inr (inl refl), tt) (λ L. (
   λ h. (_, _, (refl, refl, refl), (h.0.type_of 0, h.1.0, refl, refl), h.2),
   λ d. (
     solution d.3.0 d.0,

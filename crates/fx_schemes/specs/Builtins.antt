@@ -4,6 +4,8 @@
 use Rattle.std.specs.Prelude.{◌≡◌, Bool, true, false, List, [], ◌∷◌, Option, None, Some, codes, length, if◌then◌else◌, ◌==◌, ◌&&◌, not}
 use Rattle.fx_types.specs.Term.{Label}
 use Rattle.fx_types.specs.Ground.{Ground, GroundRow, g_bool, g_int, g_text, g_time, g_span, g_done, g_array, g_fun, g_rec, g_stream, g_absent, g_is, listed}
+use Rattle.fx_types.specs.Kinds.{IsAmong}
+use Rattle.fx_value.specs.declared.scalar.Kind.TheVariants as kind
 use Rattle.fx_schemes.specs.declared.list.Builtin.{Builtin}
 use Rattle.fx_schemes.specs.declared.list.Builtin.TheVariants as b
 use Rattle.fx_schemes.specs.declared.fold.Fold.{Fold}
@@ -11,7 +13,7 @@ use Rattle.fx_schemes.specs.declared.fold.Fold.TheVariants as fold
 use Rattle.fx_schemes.specs.declared.given.LabelWords as given
 use Rattle.fx_schemes.specs.Folds.{fold_of}
 use Rattle.fx_schemes.specs.Given.{Given, words_at, is_one_of, IsWord, IsWordOr, AreWords, AreWordsOr}
-use Rattle.fx_schemes.specs.Line.{Line, put, take_out, Has, HasAll, EachIs, kept, without, named, HasBounds, stored, OneOf, IsKind, IsMoment, parameters, value, call, piped, from_tables, of_row, of_rows}
+use Rattle.fx_schemes.specs.Line.{Line, put, take_out, Has, HasAll, EachIs, kept, without, named, HasBounds, stored, IsKind, IsMoment, parameters, value, call, piped, from_tables, of_row, of_rows}
 
 -- what aggregates and selectors make of R at the column x
 
@@ -25,7 +27,7 @@ Sums x r q = Has r x g_int × (q ≡ put x g_int (take_out (codes "_time") r))
 
 -- R[x: int or time] to R
 abbrev pub Extremes : Label → GroundRow → GroundRow → Type 0
-Extremes x r q = (c : Ground) × OneOf (g_int ∷ g_time ∷ []) c × Has r x c × (q ≡ r)
+Extremes x r q = (c : Ground) × IsAmong (kind.Int ∷ kind.Time ∷ []) false c × Has r x c × (q ≡ r)
 
 -- R[x: C] to R
 abbrev pub Ends : Label → GroundRow → GroundRow → Type 0
@@ -257,8 +259,8 @@ IsLine b.False w L = L ≡ value g_bool
 IsLine b.Now w L = L ≡ call [] [] g_time
 IsLine b.Int w L = OfKind g_int L
 IsLine b.String w L = OfKind g_text L
-IsLine b.Bool w L = (c : Ground) × OneOf (g_bool ∷ g_int ∷ g_text ∷ []) c × (L ≡ call ((codes "v", c) ∷ []) [] g_bool)
-IsLine b.Time w L = (c : Ground) × OneOf (g_time ∷ g_int ∷ g_text ∷ []) c × (L ≡ call ((codes "v", c) ∷ []) [] g_time)
+IsLine b.Bool w L = (c : Ground) × IsAmong (kind.Bool ∷ kind.Int ∷ kind.Text ∷ []) false c × (L ≡ call ((codes "v", c) ∷ []) [] g_bool)
+IsLine b.Time w L = (c : Ground) × IsAmong (kind.Time ∷ kind.Int ∷ kind.Text ∷ []) false c × (L ≡ call ((codes "v", c) ∷ []) [] g_time)
 IsLine b.Length w L = (t : Ground) × (L ≡ call ((codes "arr", g_array t) ∷ []) [] g_int)
 IsLine b.Contains w L = (c : Ground) × IsKind c × (L ≡ call ((codes "value", c) ∷ (codes "set", g_array c) ∷ []) [] g_bool)
 IsLine b.ContainsStr w L = OfTexts (codes "substr") g_bool L

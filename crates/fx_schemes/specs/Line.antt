@@ -1,8 +1,10 @@
 -- Lines: what a built-in takes and gives, in types without variables.
-use Rattle.std.specs.Prelude.{◌≡◌, List, [], ◌∷◌, Option, None, Some, ◌⊎◌, codes, if◌then◌else◌}
+use Rattle.std.specs.Prelude.{◌≡◌, true, false, List, [], ◌∷◌, Option, None, Some, codes, if◌then◌else◌}
 use Rattle.fx_base.specs.Text.{same_text}
 use Rattle.fx_types.specs.Term.{Label}
-use Rattle.fx_types.specs.Ground.{Ground, GroundField, GroundRow, g_bool, g_int, g_text, g_time, g_span, g_fun, g_rec, g_stream, g_absent, g_is, listed}
+use Rattle.fx_types.specs.Ground.{Ground, GroundField, GroundRow, g_text, g_time, g_fun, g_rec, g_stream, g_absent, g_is, listed}
+use Rattle.fx_types.specs.Kinds.{IsAmong}
+use Rattle.fx_value.specs.declared.scalar.Kind.TheVariants as kind
 
 pub record Line : Type 0 where
   -- the label arguments
@@ -65,17 +67,13 @@ stored k = put (codes "_measurement") g_text (put (codes "_field") g_text (put (
 
 -- kinds
 
-abbrev pub OneOf : List Ground → Ground → Type 0
-OneOf [] t = ⊥
-OneOf (a ∷ more) t = (t ≡ a) ⊎ OneOf more t
-
 -- a column kind
 abbrev pub IsKind : Ground → Type 0
-IsKind t = OneOf (g_bool ∷ g_int ∷ g_text ∷ g_time ∷ []) t
+IsKind = IsAmong (kind.Bool ∷ kind.Int ∷ kind.Text ∷ kind.Time ∷ []) false
 
 -- a time, or a duration that is added to the present
 abbrev pub IsMoment : Ground → Type 0
-IsMoment t = OneOf (g_time ∷ g_span ∷ []) t
+IsMoment = IsAmong (kind.Time ∷ []) true
 
 -- calls
 

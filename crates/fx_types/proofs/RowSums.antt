@@ -2,7 +2,6 @@
 use Rattle.std.proofs.Common.{◌≡◌, refl, sym, ap, subst, ◌∙◌, ℕ, zero, suc, ◌+◌, ◌≤◌, ◌<◌, Bool, true, false, List, [], ◌∷◌, ◌++◌, length, max, arith}
 use Rattle.std.specs.Prelude.{if◌then◌else◌}
 use Rattle.std.specs.Cmp.Lexicographic.{bytes_decides, nat_list_eq_equiv}
-use mathlib.Core.Bool.{true≢false}
 use Rattle.fx_base.specs.Text.{same_text}
 use Rattle.fx_types.specs.Term.{Label}
 use Rattle.fx_types.specs.Ground.{GroundField, GroundRow, listed}

@@ -17,7 +17,7 @@ use Rattle.fx_unify.specs.Bounds.{Keeps, Narrowed}
 use Rattle.fx_unify.specs.Decide.{Fixed, Checking, IsLeast}
 use Rattle.fx_unify.specs.Judge.{AreTypes, AreFixed, CheckingTerms, Judging}
 use Rattle.fx_unify.specs.Measure.{least, Admits, Measuring}
-use Rattle.fx_unify.specs.Numbers.{numbers}
+use Rattle.fx_types.specs.Numbers.{numbers}
 use Rattle.fx_unify.specs.Part.{Variable, type_node, field_node, slot_node, p_is, part, Solved}
 use Rattle.fx_unify.specs.Solutions.{Solves, HasLeast, IsUnrestricted, Agree}
 use Rattle.fx_unify.specs.Sorts.{allows}

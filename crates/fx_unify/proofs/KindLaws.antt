@@ -6,7 +6,7 @@ use Rattle.fx_value.specs.declared.scalar.Kind as kinds
 use Rattle.fx_value.specs.declared.scalar.Kind.TheVariants as kind
 use Rattle.fx_types.specs.Ground.{Ground, g_bool, g_int, g_text, g_time, g_span, g_pattern, g_done, g_array, g_fun, g_rec, g_stream}
 use Rattle.fx_unify.specs.declared.sorts.Sorts as sorts
-use Rattle.fx_unify.specs.Kinds.{of_kind, IsAmong}
+use Rattle.fx_types.specs.Kinds.{of_kind, IsAmong}
 use Rattle.fx_unify.specs.Sorts.{allows}
 use Rattle.fx_unify.proofs.RowLaws.{take_all}
 

@@ -8,7 +8,7 @@ use Rattle.fx_types.specs.declared.term.LabelField.{LabelField}
 use Rattle.fx_types.specs.declared.term.LabelTy.{LabelTy}
 use Rattle.fx_types.proofs.ShapeLaws.{entry_is, labelled_is}
 use Rattle.fx_types.specs.Shape.{term, field_term, entry_term, label_term, labels_of, fields_of}
-use Rattle.fx_unify.specs.Numbers.{numbers, numbers_labels, numbers_pipe, numbers_field, numbers_fields, numbers_tail}
+use Rattle.fx_types.specs.Numbers.{numbers, numbers_labels, numbers_pipe, numbers_field, numbers_fields, numbers_tail}
 
 pub start : (n : ℕ) → max 0 n ≡ n
 start n = omega arith

@@ -1,10 +1,8 @@
 pub mod Bounds
 pub mod Decide
 pub mod Judge
-pub mod Kinds
 pub mod Least
 pub mod Measure
-pub mod Numbers
 pub mod Part
 pub mod Rows
 pub mod Smaller

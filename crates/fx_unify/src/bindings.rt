@@ -4,8 +4,8 @@ ghost use Rattle.std.specs.Prelude.{◌≡◌, ◌↔◌, ◌≤◌, ◌<◌, �
 ghost use Rattle.fx_types.specs.Instance.{Solution, ground};
 ghost use Rattle.fx_types.specs.Shape.{term};
 ghost use Rattle.fx_types.specs.Size.{IsType};
-ghost use Rattle.fx_unify.specs.Kinds.{IsAmong};
-ghost use Rattle.fx_unify.specs.Numbers as Numbers;
+ghost use Rattle.fx_types.specs.Kinds.{IsAmong};
+ghost use Rattle.fx_types.specs.Numbers as Numbers;
 ghost use Rattle.fx_unify.specs.Solutions.{Solves, HasLeast, IsUnrestricted, next_of};
 ghost use Rattle.fx_unify.specs.Judge.{Judging};
 ghost use Rattle.fx_unify.specs.Work.{Within, Refuses};

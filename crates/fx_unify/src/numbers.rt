@@ -3,8 +3,8 @@
 ghost use Rattle.std.specs.Prelude.{◌≡◌, map, max, option_map};
 ghost use Rattle.fx_types.specs.Shape.{term, field_term, rest_term, fun_term, label_term, entry_term, row_term, labels_of, fields_of, pipe_of};
 ghost use Rattle.fx_types.specs.Term.{fun, rec};
-ghost use Rattle.fx_unify.specs.Numbers as Numbers;
-ghost use Rattle.fx_unify.specs.Numbers.{numbers_labels, numbers_pipe, numbers_field, numbers_fields, numbers_tail};
+ghost use Rattle.fx_types.specs.Numbers as Numbers;
+ghost use Rattle.fx_types.specs.Numbers.{numbers_labels, numbers_pipe, numbers_field, numbers_fields, numbers_tail};
 
 use fx_base::List;
 use fx_types::{FieldTy, FunTy, LabelField, LabelTy, Rest, RowTy, Ty};

@@ -2,7 +2,7 @@ ghost use Rattle.std.specs.Prelude.{◌≡◌, ◌&&◌, true, false, ℕ, ◌==
 ghost use Rattle.fx_types.specs.Ground as Ground;
 ghost use Rattle.fx_types.specs.Instance.{Solution, ground};
 ghost use Rattle.fx_types.specs.Shape.{term};
-ghost use Rattle.fx_unify.specs.Kinds.{of_kind, IsAmong};
+ghost use Rattle.fx_types.specs.Kinds.{of_kind, IsAmong};
 ghost use Rattle.fx_unify.specs.Sorts.{set_at, plainest_of, allows};
 ghost use Rattle.fx_unify.specs.Tag.{tag_of};
 

@@ -21,4 +21,4 @@ returns c =
     (c.in_ok-both.ensures ∙ ap (sides_function []) c.in_ok-record_over.ensures))
     c.in_ok-gives.ensures)
     c.piped.ensures)
-    (built _ _ refl refl (lit≤ tt) tt (λ L. (λ h. (h.0.row_of 0, h.0.row_of 1, h.0.row_of 2, h.2), λ d. (rows_solution d.0 d.1 d.2, tt, d.3))))
+    (built _ _ (lit≤ tt) refl (lit≤ tt) tt (λ L. (λ h. (h.0.row_of 0, h.0.row_of 1, h.0.row_of 2, h.2), λ d. (rows_solution d.0 d.1 d.2, tt, d.3))))

@@ -16,4 +16,4 @@ returns c =
     (c.in_ok-required.ensures ∙ ap (λ t. labelled (codes "fn") t ∷ []) (c.in_ok-test.ensures ∙ ap (row_function 0) term_bool))
     c.in_ok-gives.ensures)
     c.piped.ensures)
-    (built _ _ refl refl (lit≤ tt) tt (λ L. (λ h. (h.0.row_of 0, h.2), λ d. (solution g_int d.0, tt, d.1))))
+    (built _ _ (lit≤ tt) refl (lit≤ tt) tt (λ L. (λ h. (h.0.row_of 0, h.2), λ d. (solution g_int d.0, tt, d.1))))

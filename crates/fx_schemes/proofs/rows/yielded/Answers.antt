@@ -20,4 +20,4 @@ returns c =
     (ap (map label_term) c.empty.ensures)
     term_done)
     c.piped.ensures)
-    (built _ _ refl refl (lit≤ tt) tt (λ L. (λ h. (h.0.row_of 0, h.2), λ d. (solution g_int d.0, tt, d.1))))
+    (built _ _ (lit≤ tt) refl (lit≤ tt) tt (λ L. (λ h. (h.0.row_of 0, h.2), λ d. (solution g_int d.0, tt, d.1))))

@@ -5,4 +5,4 @@ use Rattle.fx_schemes.proofs.scalars.split.Goals as goal
 
 pub returns : goal.returns
 unfolding IsLine
-returns c = by_scheme _ c.scalar.result _ c.scalar.ensures (fixed _ _ refl refl (lit≤ tt) (λ s. tt) (λ s. refl))
+returns c = by_scheme _ c.scalar.result _ c.scalar.ensures (fixed _ _ (lit≤ tt) refl (lit≤ tt) (λ s. tt) (λ s. refl))

@@ -11,4 +11,4 @@ pub returns : goal.returns
 unfolding IsLine
 returns c =
     by_scheme _ c.value.result _ (along shown c.value.result _ _ (ap value_scheme term_bool) c.value.ensures)
-    (fixed _ _ refl refl (lit≤ tt) (λ s. tt) (λ s. refl))
+    (fixed _ _ (lit≤ tt) refl (lit≤ tt) (λ s. tt) (λ s. refl))

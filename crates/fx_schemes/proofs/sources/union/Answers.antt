@@ -18,4 +18,4 @@ returns c =
     (c.in_ok-required.ensures ∙ ap (λ t. labelled (codes "tables") t ∷ []) (c.in_ok-tables.ensures ∙ ap array c.in_ok-stream_over.ensures))
     c.in_ok-gives.ensures)
     c.call.ensures)
-    (built _ _ refl refl (lit≤ tt) tt (λ L. (λ h. (h.0.row_of 0, h.2), λ d. (solution g_int d.0, tt, d.1))))
+    (built _ _ (lit≤ tt) refl (lit≤ tt) tt (λ L. (λ h. (h.0.row_of 0, h.2), λ d. (solution g_int d.0, tt, d.1))))

@@ -2,7 +2,7 @@ use Rattle.std.proofs.Common.{refl, sym, ap, subst, ◌∙◌, max}
 use Rattle.fx_types.specs.Instance.{ground}
 use Rattle.fx_types.specs.Shape.{term}
 use Rattle.fx_types.specs.Size.{IsType}
-use Rattle.fx_unify.specs.Numbers.{numbers}
+use Rattle.fx_types.specs.Numbers.{numbers}
 use Rattle.fx_unify.proofs.JudgeLaws.{asked_type, asked_more, refused_more, free_more, type_agrees, if_both}
 use Rattle.fx_unify.proofs.RowLaws.{if_ok}
 use Rattle.fx_unify.proofs.bindings.Bindings.fits.Goals as goal

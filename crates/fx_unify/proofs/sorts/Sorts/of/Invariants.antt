@@ -1,6 +1,6 @@
 use Rattle.std.proofs.Common.{◌≡◌, ◌↔◌, true, take}
 use Rattle.fx_types.specs.Ground.{Ground}
-use Rattle.fx_unify.specs.Kinds.{IsAmong}
+use Rattle.fx_types.specs.Kinds.{IsAmong}
 use Rattle.fx_unify.specs.Sorts.{allows}
 use Rattle.fx_unify.proofs.sorts.Sorts.of.Given as goal
 
