@@ -14,6 +14,7 @@ pub mod LightLaws
 pub mod MeasureLaws
 pub mod NumberLaws
 pub mod OpenLaws
+pub mod PutInLaws
 pub mod RowLaws
 pub mod RunLaws
 pub mod SolvingLaws

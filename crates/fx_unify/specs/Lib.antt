@@ -4,6 +4,7 @@ pub mod Judge
 pub mod Least
 pub mod Measure
 pub mod Part
+pub mod PutIn
 pub mod Rows
 pub mod Smaller
 pub mod Solutions

@@ -8,6 +8,7 @@ ghost use Rattle.fx_types.specs.Kinds.{IsAmong};
 ghost use Rattle.fx_types.specs.Numbers as Numbers;
 ghost use Rattle.fx_unify.specs.Solutions.{Solves, HasLeast, IsUnrestricted, next_of};
 ghost use Rattle.fx_unify.specs.Judge.{Judging};
+ghost use Rattle.fx_unify.specs.PutIn.{IsApplied};
 ghost use Rattle.fx_unify.specs.Work.{Within, Refuses};
 
 use crate::bounds::Bound;
@@ -122,9 +123,11 @@ impl Bindings {
     }
 
     /// The type with what is bound put in for its type and field variables. Under every solution
-    /// it is the same type.
+    /// it is the same type. A field variable stays where it stands for a row's field at a label, for
+    /// which terms have no other name, and so do all row variables.
     pub fn apply(&self, alloc: Global, ty: &Ty) -> Result<Ty, Memory>
-        ensures { IfOk result (λ t. (s : Solution) → Solves s self.now → ground s (term t) ≡ ground s (term ty.now)) }
+        ensures same { IfOk result (λ t. (s : Solution) → Solves s self.now → ground s (term t) ≡ ground s (term ty.now)) }
+        ensures put_in { IfOk result (λ t. IsApplied self.now (term t)) }
     {
         self.store.apply_type(alloc, ty, u64::MAX)
     }

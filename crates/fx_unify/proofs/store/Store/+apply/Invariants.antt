@@ -1,6 +1,8 @@
-use Rattle.std.proofs.Common.{ℕ, ◌+◌, ◌*◌, take}
+use Rattle.std.proofs.Common.{◌+◌, ◌*◌, take, map}
 use Rattle.fx_types.specs.Instance.{Solution}
+use Rattle.fx_types.specs.Shape.{label_term, entry_term, labels_of, fields_of}
 use Rattle.fx_unify.specs.Part.{Solved}
+use Rattle.fx_unify.specs.PutIn.{LabelsPutIn, FieldsPutIn}
 use Rattle.fx_unify.specs.Rows.{SameLabels, SameFields}
 use Rattle.fx_unify.specs.Store.{entry}
 use Rattle.fx_unify.proofs.store.Store.+apply.Given as goal
@@ -44,7 +46,11 @@ abbrev pub decreases-apply_variable : goal.decreases-apply_variable
 decreases-apply_variable l = 16 * l.fuel + 2
 
 abbrev pub invariant-apply_labels-loop-entry : goal.invariant-apply_labels-loop-entry
-invariant-apply_labels-loop-entry l = (s : Solution) → Solved s (entry l.self) → SameLabels s l.applied (take l.entry-index l.entry-items)
+invariant-apply_labels-loop-entry l =
+    ((s : Solution) → Solved s (entry l.self) → SameLabels s l.applied (take l.entry-index l.entry-items))
+    × LabelsPutIn (entry l.self) (labels_of (map label_term l.applied))
 
 abbrev pub invariant-apply_listed-loop-entry : goal.invariant-apply_listed-loop-entry
-invariant-apply_listed-loop-entry l = (s : Solution) → Solved s (entry l.self) → SameFields s l.applied (take l.entry-index l.entry-items)
+invariant-apply_listed-loop-entry l =
+    ((s : Solution) → Solved s (entry l.self) → SameFields s l.applied (take l.entry-index l.entry-items))
+    × FieldsPutIn (entry l.self) (fields_of (map entry_term l.applied))
