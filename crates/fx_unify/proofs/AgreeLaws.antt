@@ -1,9 +1,9 @@
 -- Solutions that agree on the numbers of a term make the same of it.
-use Rattle.std.proofs.Common.{◌≡◌, refl, ap, ◌∙◌, ℕ, ◌+◌, ◌≤◌, ◌<◌, max, Bool, true, false, arith}
+use Rattle.std.proofs.Common.{◌≡◌, refl, ap, ℕ, ◌≤◌, arith}
 use Rattle.std.specs.Prelude.{if◌then◌else◌}
 use Rattle.fx_base.specs.Text.{same_text}
 use Rattle.fx_types.specs.Term.{Label, Term, bool, int, text, time, span, pattern, done, type_variable, array, fun, rec, stream, Labels, no_labels, more_labels, Pipe, no_pipe, by_pipe, Field, absent, is, field_variable, Fields, no_fields, more_fields, Tail, default, row_variable}
-use Rattle.fx_types.specs.Ground.{Ground, GroundField, GroundRow, g_array, g_fun, g_rec, g_stream, g_is}
+use Rattle.fx_types.specs.Ground.{GroundRow, g_array, g_fun, g_rec, g_stream, g_is}
 use Rattle.fx_types.specs.Instance.{Solution, ground, ground_labels, ground_pipe, ground_field, ground_fields, ground_tail}
 use Rattle.fx_types.specs.Numbers.{numbers, numbers_labels, numbers_pipe, numbers_field, numbers_fields, numbers_tail}
 use Rattle.fx_unify.specs.Solutions.{Agree}

@@ -1,9 +1,9 @@
 -- Terms with what is bound put in, part by part.
-use Rattle.std.proofs.Common.{◌≡◌, refl, sym, ap, subst, ◌∙◌, ℕ, ◌+◌, ◌≤◌, ◌<◌, List, [], ◌∷◌, ◌++◌, append_assoc, map, take, get_or, length, Option, option_map, arith}
+use Rattle.std.proofs.Common.{◌≡◌, refl, sym, ap, subst, ◌∙◌, ℕ, ◌+◌, ◌≤◌, ◌<◌, List, [], ◌∷◌, ◌++◌, append_assoc, map, take, get_or, length, Option, option_map}
 use Rattle.std.specs.Prelude.{if◌then◌else◌}
 use Rattle.std.proofs.lemmas.List.{take_more}
 use Rattle.fx_base.specs.Text.{same_text}
-use Rattle.fx_types.proofs.ShapeLaws.{entry_is, labelled_is, row_is, function_is, term_array, term_fun, term_rec, term_stream, field_absent, field_is, field_var, tail_default, tail_var}
+use Rattle.fx_types.proofs.ShapeLaws.{entry_is, labelled_is, term_array, term_fun, term_rec, term_stream, field_is, field_var, tail_default}
 use Rattle.fx_types.specs.declared.term.FieldTy.{FieldTy}
 use Rattle.fx_types.specs.declared.term.FunTy.{FunTy}
 use Rattle.fx_types.specs.declared.term.LabelField.{LabelField}
@@ -16,7 +16,7 @@ use Rattle.fx_types.specs.declared.term.FieldTy.TheVariants as fields
 use Rattle.fx_types.specs.declared.term.Rest.TheVariants as rests
 use Rattle.fx_types.specs.declared.term.FieldTy.TheViews.{out-FunTy, roll-FunTy, out-roll-FunTy, out-RowTy, roll-RowTy, out-roll-RowTy}
 use Rattle.fx_types.specs.Term.{Label, fun}
-use Rattle.fx_types.specs.Ground.{Ground, GroundField, GroundRow, g_array, g_fun, g_rec, g_stream, g_is}
+use Rattle.fx_types.specs.Ground.{GroundField, GroundRow, g_array, g_fun, g_rec, g_stream, g_is}
 use Rattle.fx_types.specs.Instance.{Solution, ground, ground_labels, ground_pipe, ground_field, ground_fields, ground_tail}
 use Rattle.fx_types.specs.Shape.{OfField, OfLabel, term, field_term, rest_term, fun_term, row_term, entry_term, label_term, labels_of, fields_of, pipe_of}
 use Rattle.fx_unify.specs.Part.{p_is, value}

@@ -1,11 +1,10 @@
 -- What bounds leave to free variables.
-use Rattle.std.proofs.Common.{◌≡◌, ◌≢◌, ◌⊎◌, inl, inr, refl, sym, ap, subst, ◌∙◌, ℕ, zero, suc, ◌+◌, ◌<◌, ◌≤◌, ◌==◌, ◌&&◌, eqb-true, eq-eqb, Bool, true, false, List, [], ◌∷◌, ◌++◌, take, get_or, length, None, Result, Ok, Err, arith}
+use Rattle.std.proofs.Common.{◌≡◌, ◌≢◌, inl, inr, refl, sym, ap, subst, ◌∙◌, ℕ, zero, suc, ◌+◌, ◌<◌, ◌≤◌, ◌==◌, ◌&&◌, eqb-true, eq-eqb, Bool, true, false, List, [], ◌∷◌, ◌++◌, take, get_or, length, None, Result, Ok, Err, arith}
 use Rattle.std.specs.Prelude.{if◌then◌else◌}
 use Rattle.std.proofs.lemmas.List.{take_more}
 use Rattle.std.proofs.lemmas.Bool.{and_from, and_parts}
 use mathlib.Core.Bool.{true≢false}
 use Rattle.fx_types.proofs.ShapeLaws.{term_variable, term_bool, term_int, term_text, term_time, term_span, term_pattern, term_done, term_array, term_fun, term_rec, term_stream}
-use Rattle.fx_types.proofs.Choices.{by_cases}
 use Rattle.fx_types.specs.declared.term.Ty.{Ty}
 use Rattle.fx_types.specs.declared.term.Ty.TheVariants as ty
 use Rattle.fx_types.specs.Ground.{Ground, g_bool, g_int, g_text, g_time, g_span, g_pattern, g_done, g_array, g_fun, g_rec, g_stream, g_is}
@@ -29,6 +28,7 @@ use Rattle.fx_unify.proofs.DecideLaws.{no_item}
 use Rattle.fx_unify.proofs.LeastLaws.{free_type}
 use Rattle.fx_unify.proofs.RowLaws.{take_all}
 use Rattle.fx_unify.proofs.SolvingLaws.{type_is}
+use Rattle.fx_types.proofs.Choices.{by_cases}
 
 -- sets
 

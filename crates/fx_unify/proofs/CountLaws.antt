@@ -1,48 +1,41 @@
 -- What each function that counts has to show.
-use Rattle.std.proofs.Common.{◌≡◌, ◌≢◌, refl, sym, ap, subst, ◌∙◌, ℕ, zero, suc, ◌+◌, ◌-◌, ◌≤◌, ◌<◌, Bool, true, false, List, [], ◌∷◌, ◌++◌, map, take, drop, get_or, length, Option, None, Some, option_map, Result, Ok, Err, arith}
+use Rattle.std.proofs.Common.{◌≡◌, ◌≢◌, refl, sym, ap, subst, ◌∙◌, ℕ, zero, suc, ◌+◌, ◌-◌, ◌≤◌, ◌<◌, Bool, true, false, List, [], ◌∷◌, ◌++◌, map, take, drop, get_or, length, None, Result, Ok, Err, arith}
 use Rattle.std.specs.Prelude.{if◌then◌else◌}
 use Rattle.std.proofs.lemmas.List.{drop_more, take_more, map-append}
-use mathlib.Core.Bool.{true≢false}
 use Rattle.fx_base.specs.Text.{same_text}
-use Rattle.fx_types.proofs.Choices.{by_cases, chosen, passed, never}
-use Rattle.fx_types.proofs.PlainLaws.{weighs_plain}
-use Rattle.fx_types.proofs.RowSums.{same_is, same_itself}
-use Rattle.fx_types.proofs.ShapeLaws.{entry_is, labelled_is, row_is, function_is, term_bool, term_int, term_text, term_time, term_span, term_pattern, term_done, term_variable, tail_default, tail_var}
-use Rattle.fx_types.specs.declared.term.FieldTy.{FieldTy}
+use Rattle.fx_types.proofs.ShapeLaws.{entry_is, labelled_is, term_bool, term_int, term_text, term_time, term_span, term_pattern, term_done, term_variable}
 use Rattle.fx_types.specs.declared.term.FunTy.{FunTy}
 use Rattle.fx_types.specs.declared.term.LabelField.{LabelField}
 use Rattle.fx_types.specs.declared.term.LabelTy.{LabelTy}
 use Rattle.fx_types.specs.declared.term.RowTy.{RowTy}
 use Rattle.fx_types.specs.declared.term.Ty.{Ty}
 use Rattle.fx_types.specs.declared.term.Ty.TheVariants as ty
-use Rattle.fx_types.specs.declared.term.Rest.TheVariants as rests
-use Rattle.fx_types.specs.declared.term.FieldTy.TheViews.{out-RowTy, out-FunTy}
-use Rattle.fx_types.specs.Term.{Label, Term, Field, type_variable, fun}
-use Rattle.fx_types.specs.Ground.{Ground, GroundField, GroundRow, g_bool, g_int, g_text, g_time, g_span, g_pattern, g_done, g_array, g_fun, g_rec, g_stream, g_absent, g_is, is_plain, is_column, listed, IsWellFormed, IsWellFormedField}
-use Rattle.fx_types.specs.Instance.{Solution, ground, ground_field, ground_fields, ground_labels, ground_pipe, ground_tail}
-use Rattle.fx_types.specs.Shape.{term, field_term, entry_term, label_term, rest_term, row_term, fun_term, fields_of, labels_of, pipe_of}
-use Rattle.fx_types.specs.Size.{AreDistinct, total, AtMost, Weighs, Takes, Pipes}
+use Rattle.fx_types.specs.declared.term.FieldTy.TheViews.{out-RowTy}
+use Rattle.fx_types.specs.Term.{Label, Term, type_variable, fun}
+use Rattle.fx_types.specs.Ground.{Ground, GroundField, GroundRow, g_bool, g_int, g_text, g_time, g_span, g_pattern, g_done, g_array, g_rec, g_stream, g_absent, g_is, listed, IsWellFormed}
+use Rattle.fx_types.specs.Instance.{Solution, ground, ground_field, ground_fields, ground_labels, ground_tail}
+use Rattle.fx_types.specs.Shape.{term, field_term, entry_term, label_term, rest_term, row_term, fun_term, fields_of, labels_of}
+use Rattle.fx_types.specs.Size.{AtMost, Weighs, Takes, Pipes}
 use Rattle.fx_unify.specs.declared.fault.UnifyFault.{UnifyFault}
 use Rattle.fx_unify.specs.declared.fault.UnifyFault.TheVariants as fault
 use Rattle.fx_unify.specs.declared.sorts.Sorts as sorts
-use Rattle.fx_unify.specs.declared.store.Column as columns
-use Rattle.fx_unify.specs.declared.store.Root as roots
-use Rattle.fx_unify.specs.declared.store.Root.TheVariants as root
 use Rattle.fx_unify.specs.declared.store.Store as stores
-use Rattle.fx_unify.specs.Least.{steps, Leads, RestLeads}
-use Rattle.fx_unify.specs.Measure.{least, Admits, Settles, Measured, Measuring, Sums, RowMeasured, RowMeasuring}
-use Rattle.fx_unify.specs.Part.{Part, p_is, p_slot, part, part_of, value, type_node, slot_node, Solved}
+use Rattle.fx_unify.specs.Least.{Leads}
+use Rattle.fx_unify.specs.Measure.{least, Admits, Measuring, RowMeasuring}
+use Rattle.fx_unify.specs.Part.{p_is, value, type_node, Solved}
 use Rattle.fx_unify.specs.Rows.{ground_row}
-use Rattle.fx_unify.specs.Sorts.{plain_values, plainest_of, set_at, allows, is_light}
-use Rattle.fx_unify.specs.Store.{entry, bound_to, root_at, slot_in, known, IsFree}
-use Rattle.fx_unify.specs.Sums.{Summed, Summing, names, row_names, row_rest, required_names, column_names}
+use Rattle.fx_unify.specs.Sorts.{plain_values, plainest_of, set_at}
+use Rattle.fx_unify.specs.Store.{entry, bound_to}
+use Rattle.fx_unify.specs.Sums.{Summed, Summing, names, row_names, required_names}
 use Rattle.fx_unify.proofs.Cases.{Form, is_bool, is_int, is_text, is_time, is_span, is_pattern, is_done, is_variable, is_array, is_fun, is_rec, is_stream, form_of}
-use Rattle.fx_unify.proofs.HeadLaws.{ground_array, ground_fun, ground_rec, ground_stream, pipe_part, result_part, labels_part}
-use Rattle.fx_unify.proofs.LeastLaws.{free_type, free_field, free_slot, led, measured_before}
-use Rattle.fx_unify.proofs.MeasureLaws.{more_nodes, some_node, more_weight, more_taken, no_room, one_node, restated_measure, counts_none, measured_array, array_over, measured_record, record_over, measured_stream, stream_over, measured_taken, taken_over, taken_no_room, measured_field, field_over, field_no_room, measured_function, labels_over, pipe_over, result_over}
-use Rattle.fx_unify.proofs.RowLaws.{value_of, ground_row_is, take_all}
-use Rattle.fx_unify.proofs.StoreLaws.{off_columns}
-use Rattle.fx_unify.proofs.SumLaws.{listed_one_more, sum_start, sum_skip, sum_add, sum_over, row_whole, row_refused, row_over}
+use Rattle.fx_unify.proofs.HeadLaws.{ground_array, ground_fun, ground_rec, ground_stream}
+use Rattle.fx_unify.proofs.LeastLaws.{free_type, led}
+use Rattle.fx_unify.proofs.MeasureLaws.{more_weight, more_taken, one_node, restated_measure, measured_array, array_over, measured_record, record_over, measured_stream, stream_over, measured_taken, taken_over, taken_no_room}
+use Rattle.fx_unify.proofs.RowLaws.{ground_row_is, take_all}
+use Rattle.fx_unify.proofs.SumLaws.{sum_skip, sum_add, sum_over}
+use Rattle.fx_types.proofs.Choices.{chosen, passed, never, by_cases}
+use Rattle.fx_types.proofs.RowSums.{same_is, same_itself}
+use Rattle.fx_unify.proofs.LabelLaws.{listed_one_more}
 
 -- the plainest type of a set
 

@@ -1,8 +1,8 @@
 -- Whether a solution is left, put together.
-use Rattle.std.proofs.Common.{◌≡◌, ◌↔◌, refl, sym, ap, subst, ◌∙◌, ℕ, zero, suc, ◌+◌, ◌<◌, ◌≤◌, max, true, List, [], ◌∷◌, ◌++◌, take, get_or, length, Option, None, option_map, Result, Ok, Err, IfOk, arith}
+use Rattle.std.proofs.Common.{◌≡◌, ◌↔◌, refl, sym, ap, subst, ◌∙◌, ℕ, zero, suc, ◌+◌, ◌<◌, ◌≤◌, max, true, List, [], ◌∷◌, ◌++◌, take, get_or, length, None, option_map, Result, Ok, Err, IfOk, arith}
 use Rattle.std.proofs.lemmas.List.{take_more}
 use Rattle.fx_types.specs.declared.term.Ty.{Ty}
-use Rattle.fx_types.specs.Ground.{Ground, GroundField, g_absent, g_is}
+use Rattle.fx_types.specs.Ground.{Ground, g_absent, g_is}
 use Rattle.fx_types.specs.Instance.{Solution, ground, plainest}
 use Rattle.fx_types.specs.Shape.{term}
 use Rattle.fx_types.specs.Size.{Pipes, IsType}
@@ -11,8 +11,8 @@ use Rattle.fx_unify.specs.declared.bounds.Bound as bounds
 use Rattle.fx_unify.specs.declared.fault.UnifyFault.{UnifyFault}
 use Rattle.fx_unify.specs.declared.fault.UnifyFault.TheVariants as fault
 use Rattle.fx_unify.specs.declared.sorts.Sorts as sorts
+use Rattle.fx_unify.specs.declared.store.Slot as slot
 use Rattle.fx_unify.specs.declared.store.Store as stores
-use Rattle.fx_unify.specs.declared.work.Pair as pairs
 use Rattle.fx_unify.specs.Bounds.{Keeps, Narrowed}
 use Rattle.fx_unify.specs.Decide.{Fixed, Checking, IsLeast}
 use Rattle.fx_unify.specs.Judge.{AreTypes, AreFixed, CheckingTerms, Judging}
@@ -21,7 +21,7 @@ use Rattle.fx_types.specs.Numbers.{numbers}
 use Rattle.fx_unify.specs.Part.{Variable, type_node, field_node, slot_node, p_is, part, Solved}
 use Rattle.fx_unify.specs.Solutions.{Solves, HasLeast, IsUnrestricted, Agree}
 use Rattle.fx_unify.specs.Sorts.{allows}
-use Rattle.fx_unify.specs.Store.{entry, slot_in, root_at}
+use Rattle.fx_unify.specs.Store.{entry, slot_in, rest_in}
 use Rattle.fx_unify.specs.Work.{Hold, Holds, Within, Told, Refuses, IsField, Solving, nothing_more}
 use Rattle.fx_unify.proofs.AgreeLaws.{agree_less, agree_term}
 use Rattle.fx_unify.proofs.LessLaws.{least_smallest, less_smaller, int_less}
@@ -29,6 +29,7 @@ use Rattle.fx_unify.proofs.DecideLaws.{fixed_more, fixed_of, no_item}
 use Rattle.fx_unify.proofs.RowLaws.{take_all}
 use Rattle.fx_unify.proofs.SolvingLaws.{type_is}
 use Rattle.fx_unify.proofs.StoreLaws.{none_some}
+use Rattle.fx_types.specs.Term.{Label}
 
 -- terms that are types
 
@@ -91,13 +92,14 @@ if_both (Err e) f p q = tt
 
 -- nothing is asked
 
-module _ (b : declared.Bindings) (types : b.store.types.items ≡ []) (fields : b.store.fields.items ≡ []) (cols : b.store.columns.items ≡ []) (rests : b.store.rests.items ≡ [])
+module _ (b : declared.Bindings) (types : b.store.types.items ≡ []) (fields : b.store.fields.items ≡ []) (slots : b.store.slots.items ≡ []) (kept : b.store.apart.items ≡ []) (rests : b.store.rests.items ≡ [])
     (work : b.store.work.items ≡ []) (none : b.bounds.items ≡ []) (also : b.also.items ≡ []) where
   unbound : (x : Variable) → entry b.store x ≡ None
   unbound (type_node n) = ap (option_map (λ t. p_is (term t))) (ap (λ xs. get_or xs n None) types ∙ no_item [] n None (omega arith))
   unbound (field_node n) = ap (option_map part) (ap (λ xs. get_or xs n None) fields ∙ no_item [] n None (omega arith))
   unbound (slot_node r l) =
-      ap (λ cs. slot_in cs b.store.rests.items r l) cols ∙ ap (option_map (root_at l)) (ap (λ xs. get_or xs r None) rests ∙ no_item [] r None (omega arith))
+      (λ i. slot_in (get_or (slots i) r []) l (rest_in (get_or (kept i) r []) (get_or (rests i) r None) l))
+      ∙ (λ i. slot_in (no_item {A = List slot.Slot} [] r [] (omega arith) i) l (rest_in (no_item {A = List Label} [] r [] (omega arith) i) (no_item [] r None (omega arith) i) l))
 
   pub nothing_asked : (s : Solution) → Solves s b
   nothing_asked s = (

@@ -1,9 +1,8 @@
 -- Sets of kinds.
-use Rattle.std.proofs.Common.{◌≡◌, ◌↔◌, ◌⊎◌, inl, inr, refl, sym, ap, subst, ◌∙◌, ℕ, zero, suc, ◌+◌, ◌<◌, ◌≤◌, Bool, true, false, List, [], ◌∷◌, ◌++◌, take, get_or, length, arith}
+use Rattle.std.proofs.Common.{◌≡◌, ◌↔◌, ◌⊎◌, inl, inr, refl, sym, ap, subst, ◌∙◌, ℕ, ◌+◌, ◌<◌, ◌≤◌, Bool, true, false, List, [], ◌∷◌, ◌++◌, take, get_or, length}
 use Rattle.std.proofs.lemmas.List.{take_more}
 use mathlib.Core.Bool.{true≢false}
 use Rattle.fx_value.specs.declared.scalar.Kind as kinds
-use Rattle.fx_value.specs.declared.scalar.Kind.TheVariants as kind
 use Rattle.fx_types.specs.Ground.{Ground, g_bool, g_int, g_text, g_time, g_span, g_pattern, g_done, g_array, g_fun, g_rec, g_stream}
 use Rattle.fx_unify.specs.declared.sorts.Sorts as sorts
 use Rattle.fx_types.specs.Kinds.{of_kind, IsAmong}

@@ -1,10 +1,10 @@
 -- The steps of the least solution.
-use Rattle.std.proofs.Common.{◌≡◌, refl, sym, ap, subst, ◌∙◌, ℕ, zero, suc, ◌+◌, ◌-◌, ◌≤◌, false, List, Option, None, Some, get_or, Result, Ok, Err, option_map, MatchOption, arith}
+use Rattle.std.proofs.Common.{◌≡◌, refl, sym, ap, subst, ◌∙◌, ℕ, zero, suc, ◌+◌, ◌-◌, ◌≤◌, true, false, List, Option, None, Some, get_or, Result, Ok, Err, option_map, MatchOption, arith}
 use Rattle.fx_types.specs.declared.term.Ty.{Ty}
 use Rattle.fx_types.specs.declared.term.Ty.TheVariants as ty
-use Rattle.fx_types.specs.Term.{Label, Term, type_variable, Tail}
-use Rattle.fx_types.specs.Ground.{Ground, GroundField, g_absent, g_is, IsWellFormedField}
-use Rattle.fx_types.specs.Instance.{Solution, ground_tail}
+use Rattle.fx_types.specs.Term.{Label, type_variable}
+use Rattle.fx_types.specs.Ground.{Ground, GroundField, g_is, listed, IsWellFormedField}
+use Rattle.fx_types.specs.Instance.{Solution}
 use Rattle.fx_types.specs.Shape.{term}
 use Rattle.fx_types.proofs.ShapeLaws.{term_variable}
 use Rattle.fx_unify.specs.declared.fault.UnifyFault.{UnifyFault}
@@ -13,12 +13,14 @@ use Rattle.fx_unify.specs.declared.sorts.Sorts as sorts
 use Rattle.fx_unify.specs.declared.store.Root as roots
 use Rattle.fx_unify.specs.declared.store.Root.TheVariants as root
 use Rattle.fx_unify.specs.declared.store.Store as stores
-use Rattle.fx_unify.specs.Least.{type_or, value_or, steps, Leads, RowLeads, RestLeads}
-use Rattle.fx_unify.specs.Measure.{least, Admits, Settles, Measured, Measuring}
+use Rattle.fx_unify.specs.Least.{type_or, value_or, steps, Leads, RowLeads}
+use Rattle.fx_unify.specs.Measure.{least, Admits, Settles, Measuring}
 use Rattle.fx_unify.specs.Part.{Part, p_is, p_field, p_slot, value, Entries, type_node, field_node, slot_node, Solved}
 use Rattle.fx_unify.specs.Sorts.{plain_values}
-use Rattle.fx_unify.specs.Store.{entry, bound_to, root_at, known}
-use Rattle.fx_unify.proofs.StoreLaws.{some_is, none_some, off_columns}
+use Rattle.fx_unify.specs.Store.{entry, bound_to, root_at, rest_of, AreKept}
+use Rattle.fx_unify.proofs.StoreLaws.{some_is, none_some, off_kept, followed, stepped}
+use Rattle.fx_unify.specs.View.{field_bound_to}
+use Rattle.fx_unify.proofs.LabelLaws.{not_before}
 
 typed_step : (o : Option Ty) (t : Ground) (s : Solution) (q : Part) → option_map (λ u. p_is (term u)) o ≡ Some q
     → g_is (type_or t (value_or (g_is t) s (option_map (λ u. p_is (term u)) o))) ≡ value s q
@@ -52,6 +54,11 @@ pub leads_on : (st : stores.Store) (p q r : Part) → Leads (entry st) p q → b
 leads_on st p q r h e =
     (suc h.0, λ plain n. (let same : n + suc h.0 ≡ suc n + h.0 = omega arith in ap (λ i. value (steps (entry st) plain i) p) same ∙ h.1 plain (suc n) ∙ bound_step st q r e plain n))
 
+pub field_bound : (e : Entries) (p q : Part) → field_bound_to e p ≡ Some q → bound_to e p ≡ Some q
+field_bound e (p_field n) q h = h
+field_bound e (p_slot r l) q h = h
+field_bound e _ q h = none_some q None refl h
+
 -- what is measured of the end of a way is measured of its start
 pub settled_before : (e : Entries) (plain : Solution) (f g : Solution → GroundField) (d : ℕ) → ((n : ℕ) → f (steps e plain (n + d)) ≡ g (steps e plain n)) → (x : GroundField)
     → Settles (steps e plain) g x → Settles (steps e plain) f x
@@ -73,17 +80,36 @@ pub led : (st : stores.Store) (ks : List sorts.Sorts) (C : GroundField → ℕ �
     → (r : Result ℕ UnifyFault) (room : ℕ) → Measuring r (least st ks) (Admits st ks) C (λ s. value s q) room → Measuring r (least st ks) (Admits st ks) C (λ s. value s p) room
 led st ks C p q way same r room h = measured_before st ks C (λ s. value s p) (λ s. value s q) way.0 (λ n. way.1 (plain_values ks) n) same r room h
 
--- the same for rows, off the columns
+pub bound_measured : (st : stores.Store) (ks : List sorts.Sorts) (C : GroundField → ℕ → Type 0) (p q : Part) → bound_to (entry st) p ≡ Some q → (r : Result ℕ UnifyFault) (room : ℕ)
+    → Measuring r (least st ks) (Admits st ks) C (λ s. value s q) room → Measuring r (least st ks) (Admits st ks) C (λ s. value s p) room
+bound_measured st ks C p q e r room h =
+    measured_before st ks C (λ s. value s p) (λ s. value s q) 1
+    (λ i. (let next : i + 1 ≡ suc i = omega arith in ap (λ j. value (least st ks j) p) next ∙ bound_step st p q e (plain_values ks) i))
+    (λ s solved. sym (stepped (entry st) p q e s solved)) r room h
 
-pub row_leads_nowhere : (st : stores.Store) (r : ℕ) → RowLeads st r (root.Var r)
-row_leads_nowhere st r = (0, λ plain n l off. (let same : n + 0 ≡ n = omega arith in ap (λ i. (steps (entry st) plain i).row_of r l) same))
+-- the same for rows, off labels of which there are more and more
 
-pub row_leads_on : (st : stores.Store) (r q : ℕ) (o : roots.Root) → RowLeads st r (root.Var q) → get_or st.rests.items q None ≡ Some o → RowLeads st r o
-row_leads_on st r q o h e = (
-  suc h.0,
-  λ plain n l off. (let same : n + suc h.0 ≡ suc n + h.0 = omega arith in
-      ap (λ i. (steps (entry st) plain i).row_of r l) same ∙ h.1 plain (suc n) l off
-      ∙ bound_step st (p_slot q l) (root_at l o) (off_columns st.columns.items st.rests.items q l off ∙ ap (option_map (root_at l)) e) plain n),
+abbrev pub Rests : stores.Store → List Label → ℕ → ℕ → Type 0
+Rests st ls r q = ((s : Solution) → Solved s (entry st) → (l : Label) → listed l ls ≡ false → s.row_of q l ≡ s.row_of r l) × RowLeads st ls r (root.Var q)
+
+pub rests_nowhere : (st : stores.Store) (ls : List Label) (r : ℕ) → Rests st ls r r
+rests_nowhere st ls r = (λ s solved l off. refl, (0, λ plain n l off. (let same : n + 0 ≡ n = omega arith in ap (λ i. (steps (entry st) plain i).row_of r l) same)))
+
+pub rests_at : (st : stores.Store) (ls ms : List Label) (r q : ℕ) → Rests st ls r q → ((l : Label) → listed l ls ≡ true → listed l ms ≡ true) → Rests st ms r q
+rests_at st ls ms r q h more =
+    (λ s solved l off. h.0 s solved l (not_before ls ms l more off), (h.1.0, λ plain n l off. h.1.1 plain n l (not_before ls ms l more off)))
+
+-- on to what the rest of the row is bound to
+pub rests_on : (st : stores.Store) (ls ms : List Label) (r q : ℕ) (o : roots.Root) → Rests st ls r q → ((l : Label) → listed l ls ≡ true → listed l ms ≡ true) → AreKept st q ms
+    → rest_of st q ≡ Some o → ((s : Solution) → Solved s (entry st) → (l : Label) → listed l ms ≡ false → value s (root_at l o) ≡ s.row_of r l) × RowLeads st ms r o
+rests_on st ls ms r q o h more kept e = (
+  λ s solved l off. sym (followed st q o e s solved l (kept l off).0 (kept l off).1) ∙ h.0 s solved l (not_before ls ms l more off),
+  (
+    suc h.1.0,
+    λ plain n l off. (let same : n + suc h.1.0 ≡ suc n + h.1.0 = omega arith in
+        ap (λ i. (steps (entry st) plain i).row_of r l) same ∙ h.1.1 plain (suc n) l (not_before ls ms l more off)
+        ∙ bound_step st (p_slot q l) (root_at l o) (off_kept st q l (kept l off).0 (kept l off).1 ∙ ap (option_map (root_at l)) e) plain n),
+  ),
 )
 
 -- what a type variable is bound to, by reference

@@ -1,9 +1,8 @@
 -- No term is smaller under another solution than under the least one.
-use Rattle.std.proofs.Common.{◌≡◌, refl, sym, ap, subst, ◌∙◌, ℕ, zero, suc, ◌+◌, ◌≤◌, Bool, true, false, List, Option, None, Some, option_map, get_or, arith}
+use Rattle.std.proofs.Common.{◌≡◌, refl, sym, subst, ◌∙◌, ℕ, zero, suc, Bool, true, false, List, Option, None, Some, option_map, get_or}
 use Rattle.std.specs.Prelude.{if◌then◌else◌}
 use mathlib.Core.Bool.{true≢false}
 use Rattle.fx_base.specs.Text.{same_text}
-use Rattle.fx_types.proofs.Choices.{by_cases}
 use Rattle.fx_types.specs.declared.term.Ty.{Ty}
 use Rattle.fx_types.specs.Term.{Label, Term, bool, int, text, time, span, pattern, done, type_variable, array, fun, rec, stream, Labels, no_labels, more_labels, Pipe, no_pipe, by_pipe, Field, absent, is, field_variable, Fields, no_fields, more_fields, Tail, default, row_variable}
 use Rattle.fx_types.specs.Ground.{Ground, GroundField, GroundRow, g_bool, g_int, g_text, g_time, g_span, g_pattern, g_done, g_array, g_fun, g_rec, g_stream, g_absent, g_is, is_column}
@@ -14,14 +13,14 @@ use Rattle.fx_unify.specs.declared.sorts.Sorts as sorts
 use Rattle.fx_unify.specs.declared.store.Store as stores
 use Rattle.fx_unify.specs.Least.{type_or, value_or}
 use Rattle.fx_unify.specs.Measure.{least, Admits}
-use Rattle.fx_unify.specs.Part.{Part, p_absent, p_is, p_field, p_slot, value, type_node, field_node, slot_node, Solved}
+use Rattle.fx_unify.specs.Part.{Part, p_absent, p_is, p_field, p_slot, value, type_node, field_node, slot_node}
 use Rattle.fx_unify.specs.Smaller.{Less, LessField, LessSolution, IsSmaller}
 use Rattle.fx_unify.specs.Sorts.{plainest_of, set_at, allows}
 use Rattle.fx_unify.specs.Store.{entry}
 use Rattle.fx_unify.proofs.CountLaws.{plainest_one}
 use Rattle.fx_unify.proofs.MeasureLaws.{more_nodes, some_node}
-use Rattle.fx_unify.proofs.StoreLaws.{none_some, some_is}
 use Rattle.fx_unify.proofs.WeighLaws.{allows_column}
+use Rattle.fx_types.proofs.Choices.{by_cases}
 
 less_itself : (t : Ground) → Less t t
 less_itself t = (λ e. e, λ n h. h)

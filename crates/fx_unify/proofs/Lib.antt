@@ -2,12 +2,14 @@ pub mod AgreeLaws
 pub mod ApplyLaws
 pub mod BoundLaws
 pub mod Cases
+pub mod CompareLaws
 pub mod CountLaws
 pub mod DecideLaws
 pub mod HeadLaws
-pub mod JoinLaws
 pub mod JudgeLaws
+pub mod KeptLaws
 pub mod KindLaws
+pub mod LabelLaws
 pub mod LeastLaws
 pub mod LessLaws
 pub mod LightLaws
@@ -15,6 +17,7 @@ pub mod MeasureLaws
 pub mod NumberLaws
 pub mod OpenLaws
 pub mod PutInLaws
+pub mod PlainRowLaws
 pub mod RowLaws
 pub mod RunLaws
 pub mod SolvingLaws

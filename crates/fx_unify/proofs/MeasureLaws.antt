@@ -1,19 +1,19 @@
 -- What types count by their parts.
-use Rattle.std.proofs.Common.{◌≡◌, refl, sym, ap, subst, ◌∙◌, ℕ, zero, suc, ◌+◌, ◌-◌, ◌≤◌, Bool, true, false, List, [], ◌∷◌, Result, Ok, Err, IsTrue, arith}
+use Rattle.std.proofs.Common.{◌≡◌, refl, sym, ap, subst, ◌∙◌, ℕ, ◌+◌, ◌-◌, ◌≤◌, true, false, List, [], ◌∷◌, Result, Ok, Err, arith}
 use Rattle.std.specs.Prelude.{if◌then◌else◌}
-use mathlib.Core.Bool.{true≢false}
-use Rattle.fx_types.proofs.Choices.{by_cases, chosen, passed, never}
-use Rattle.fx_types.proofs.PlainLaws.{plain_formed, plain_weighs, weighs_plain}
 use Rattle.fx_types.specs.Term.{Label}
-use Rattle.fx_types.specs.Ground.{Ground, GroundField, GroundRow, g_bool, g_int, g_text, g_time, g_span, g_pattern, g_done, g_array, g_fun, g_rec, g_stream, g_absent, g_is, is_plain, is_column, listed, HasDefault, IsWellFormed, IsWellFormedField}
+use Rattle.fx_types.specs.Ground.{Ground, GroundField, GroundRow, g_bool, g_int, g_text, g_time, g_span, g_pattern, g_done, g_array, g_fun, g_rec, g_stream, g_absent, g_is, is_plain, is_column, listed, IsWellFormed, IsWellFormedField}
 use Rattle.fx_types.specs.Instance.{Solution}
 use Rattle.fx_types.specs.Size.{AreDistinct, total, AtMost, Weighs, Takes, Pipes}
 use Rattle.fx_unify.specs.declared.fault.UnifyFault.{UnifyFault}
 use Rattle.fx_unify.specs.declared.fault.UnifyFault.TheVariants as fault
-use Rattle.fx_unify.specs.Measure.{Settles, Measured, Measuring, Sums, IsPlainOff, RowMeasured, RowMeasuring}
+use Rattle.fx_unify.specs.Measure.{Measured, Measuring, RowMeasured, RowMeasuring}
 use Rattle.fx_unify.specs.Sums.{Summed, Summing}
 use Rattle.fx_unify.proofs.SolvingLaws.{type_is}
-use Rattle.fx_unify.proofs.SumLaws.{fresh_label, no_weight}
+use Rattle.fx_unify.proofs.SumLaws.{no_weight}
+use Rattle.fx_types.proofs.Choices.{chosen, passed, by_cases}
+use Rattle.fx_types.proofs.PlainLaws.{plain_formed, plain_weighs, weighs_plain}
+use Rattle.fx_unify.proofs.LabelLaws.{fresh_label}
 
 pub more_nodes : (t : Ground) (a b : ℕ) → AtMost t a → a ≤ b → AtMost t b
 more_nodes (g_array t) a b h le = (h.0, h.1, omega (arith, h.2))

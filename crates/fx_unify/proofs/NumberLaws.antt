@@ -1,14 +1,12 @@
 -- The numbers of a term: the greatest of those of its parts, and what is under solutions that agree below it.
-use Rattle.std.proofs.Common.{◌≡◌, refl, sym, ap, ◌∙◌, ℕ, zero, suc, ◌+◌, ◌≤◌, ◌<◌, true, false, List, [], ◌∷◌, map, drop, length, get_or, max, arith}
-use Rattle.std.specs.Prelude.{if◌then◌else◌}
+use Rattle.std.proofs.Common.{◌≡◌, refl, sym, ap, ◌∙◌, ℕ, ◌+◌, ◌≤◌, ◌<◌, List, ◌∷◌, map, drop, length, get_or, max, arith}
 use Rattle.std.proofs.lemmas.List.{drop_more}
 use Rattle.std.proofs.Math.ListN.{drop_of_length-le}
-use Rattle.fx_base.specs.Text.{same_text}
 use Rattle.fx_types.specs.declared.term.LabelField.{LabelField}
 use Rattle.fx_types.specs.declared.term.LabelTy.{LabelTy}
 use Rattle.fx_types.proofs.ShapeLaws.{entry_is, labelled_is}
 use Rattle.fx_types.specs.Shape.{term, field_term, entry_term, label_term, labels_of, fields_of}
-use Rattle.fx_types.specs.Numbers.{numbers, numbers_labels, numbers_pipe, numbers_field, numbers_fields, numbers_tail}
+use Rattle.fx_types.specs.Numbers.{numbers, numbers_labels, numbers_field, numbers_fields}
 
 pub start : (n : ℕ) → max 0 n ≡ n
 start n = omega arith

@@ -15,9 +15,10 @@ use Rattle.fx_types.specs.declared.term.FieldTy.TheViews.{roll-FunTy, out-roll-F
 use Rattle.fx_types.specs.Term.{Label, fun, rec}
 use Rattle.fx_types.specs.Instance.{Solution}
 use Rattle.fx_types.specs.Shape.{term, field_term, rest_term, fun_term, row_term, entry_term, label_term, labels_of, fields_of, pipe_of}
-use Rattle.fx_unify.specs.declared.field.Field as code
-use Rattle.fx_unify.specs.declared.field.Field.TheVariants as variants
-use Rattle.fx_unify.specs.Part.{p_is, part, value, Entries, Solved}
+use Rattle.fx_unify.specs.declared.view.View as code
+use Rattle.fx_unify.specs.declared.view.View.TheVariants as variants
+use Rattle.fx_unify.specs.View.{part_seen}
+use Rattle.fx_unify.specs.Part.{p_is, p_slot, value, Entries, Solved}
 use Rattle.fx_unify.specs.PutIn.{IsLastField, IsPutIn, LabelsPutIn, PipePutIn, FieldPutIn, FieldsPutIn, RestPutIn}
 use Rattle.fx_unify.specs.Store.{bound_to}
 use Rattle.fx_unify.proofs.Cases.{Form, is_bool, is_int, is_text, is_time, is_span, is_pattern, is_done, is_variable, is_array, is_fun, is_rec, is_stream, form_of}
@@ -111,12 +112,12 @@ module _ (e : Entries) where
   pub variable_put : (n : ℕ) → IsLastField e n → FieldPutIn e (field_term (fields.Var n))
   variable_put n h = subst (FieldPutIn e) (sym (field_var n)) h
 
-  pub free_last : (f : code.Field) (n : ℕ) → f ≡ variants.Var n → bound_to e (part f) ≡ None → IsLastField e n
-  free_last f n q h = inl (sym (ap (λ g. bound_to e (part g)) q) ∙ h)
+  pub free_last : (f : code.View) (n : ℕ) → f ≡ variants.Var n → bound_to e (part_seen f) ≡ None → IsLastField e n
+  free_last f n q h = inl (sym (ap (λ g. bound_to e (part_seen g)) q) ∙ h)
 
-  pub slot_last : (f : code.Field) (n r : ℕ) (l : Label) → f ≡ variants.Slot r l → bound_to e (part f) ≡ None
-      → ((s : Solution) → Solved s e → value s (part f) ≡ s.field_of n) → IsLastField e n
-  slot_last f n r l q h same = inr (r, l, sym (ap (λ g. bound_to e (part g)) q) ∙ h, λ s solved. sym (same s solved) ∙ ap (λ g. value s (part g)) q)
+  pub slot_last : (f : code.View) (n r : ℕ) (l : Label) → part_seen f ≡ p_slot r l → bound_to e (part_seen f) ≡ None
+      → ((s : Solution) → Solved s e → value s (part_seen f) ≡ s.field_of n) → IsLastField e n
+  slot_last f n r l q h same = inr (r, l, sym (ap (bound_to e) q) ∙ h, λ s solved. sym (same s solved) ∙ ap (value s) q)
 
   pub default_put : (f : FieldTy) → FieldPutIn e (field_term f) → RestPutIn e (rest_term (rests.Default f))
   default_put f h = subst (RestPutIn e) (sym (tail_default f)) h

@@ -1,50 +1,22 @@
 -- Sums over the labels of a row, label by label.
-use Rattle.std.proofs.Common.{◌≡◌, refl, sym, ap, subst, ◌∙◌, ℕ, zero, suc, ◌+◌, ◌-◌, ◌≤◌, ◌<◌, max, Bool, true, false, List, [], ◌∷◌, ◌++◌, length, Result, Ok, Err, IsTrue, arith}
+use Rattle.std.proofs.Common.{◌≡◌, refl, sym, ap, subst, ◌∙◌, ℕ, ◌+◌, ◌-◌, ◌≤◌, Bool, true, false, List, [], ◌∷◌, ◌++◌, Err, arith}
 use Rattle.std.specs.Prelude.{if◌then◌else◌}
 use mathlib.Core.Bool.{true≢false}
 use Rattle.fx_base.specs.Text.{same_text}
-use Rattle.fx_types.proofs.Choices.{by_cases, chosen, passed, neither, never}
-use Rattle.fx_types.proofs.PlainLaws.{plain_formed, plain_weighs}
-use Rattle.fx_types.proofs.RowSums.{same_is, same_itself, zeros, length-zeros}
 use Rattle.fx_types.specs.Term.{Label}
-use Rattle.fx_types.specs.Ground.{Ground, GroundField, GroundRow, g_bool, g_int, g_text, g_time, g_absent, g_is, is_plain, is_column, listed, HasDefault, IsWellFormedField}
+use Rattle.fx_types.specs.Ground.{GroundField, GroundRow, g_absent, is_plain, listed, HasDefault, IsWellFormedField}
 use Rattle.fx_types.specs.Instance.{Solution}
 use Rattle.fx_types.specs.Size.{AreDistinct, total, Weighs}
-use Rattle.fx_unify.specs.declared.fault.UnifyFault.{UnifyFault}
 use Rattle.fx_unify.specs.declared.fault.UnifyFault.TheVariants as fault
-use Rattle.fx_unify.specs.Measure.{Settles, Measured, Measuring, Sums, IsPlainOff, RowMeasured, RowMeasuring}
-use Rattle.fx_unify.specs.Sums.{Summed, Summing}
-
--- labels
-
-pub listed_one_more : (l x : Label) (ls : List Label) → listed l (ls ++ x ∷ []) ≡ (if same_text l x then true else listed l ls)
-listed_one_more l x [] = refl
-listed_one_more l x (y ∷ ls) = step (same_text l y) (same_text l x) (listed l (ls ++ x ∷ [])) (listed l ls) (listed_one_more l x ls)
-  where
-    step : (a b c d : Bool) → c ≡ (if b then true else d) → (if a then true else c) ≡ (if b then true else (if a then true else d))
-    step true true c d e = refl
-    step true false c d e = refl
-    step false b c d e = e
+use Rattle.fx_unify.specs.Measure.{Measured, Sums, RowMeasured, RowMeasuring}
+use Rattle.fx_unify.specs.Sums.{Summed}
+use Rattle.fx_types.proofs.Choices.{chosen, passed, never, by_cases, neither}
+use Rattle.fx_types.proofs.PlainLaws.{plain_formed, plain_weighs}
+use Rattle.fx_types.proofs.RowSums.{same_is, same_itself}
+use Rattle.fx_unify.proofs.LabelLaws.{fresh_label, listed_append}
 
 none_of_both : (a b : Bool) → a ≡ false → b ≡ false → (if a then true else b) ≡ false
 none_of_both a b e f = passed a true b e ∙ f
-
-longest : List Label → ℕ
-longest [] = 0
-longest (l ∷ ls) = max (length l) (longest ls)
-
-longer_unlisted : (l : Label) (ls : List Label) → longest ls < length l → listed l ls ≡ false
-unfolding longest
-longer_unlisted l [] h = refl
-longer_unlisted l (x ∷ ls) h =
-    by_cases (same_text l x) (λ e. let same : length l ≡ length x = ap length (same_is l x e) in absurd (omega arith))
-    (λ e. passed (same_text l x) true (listed l ls) e ∙ longer_unlisted l ls (omega arith))
-
-pub fresh_label : (ls ms : List Label) → (l : Label) × (listed l ls ≡ false) × (listed l ms ≡ false)
-fresh_label ls ms =
-    let n : ℕ = longest ls + longest ms + 1 in
-    let size : length (zeros n) ≡ n = length-zeros n in
-    (zeros n, longer_unlisted (zeros n) ls (omega arith), longer_unlisted (zeros n) ms (omega arith))
 
 -- weights
 
@@ -159,27 +131,38 @@ module _ (at : ℕ → Solution) (Among : Solution → Type 0) (C : GroundField 
 -- the whole row: what was looked at, and a plain field at all other labels
 
 module _ (at : ℕ → Solution) (Among : Solution → Type 0) (f : Solution → GroundRow) (seen : List Label) where
-  pub row_whole : (n : ℕ) (d : GroundField) → is_plain d ≡ true → (k : ℕ) × ((i : ℕ) → k ≤ i → (l : Label) → listed l seen ≡ false → f (at i) l ≡ d)
-      → Summed at Among Weighs f seen n → RowMeasured at Among f n
-  row_whole n d plain rest h = (row, (h.1.0 + rest.0, settled), (d, plain, (seen, λ l e. passed (listed l seen) (h.0 l) d e)), formed, (h.3.0, weighs, h.3.3), low)
+  -- off the labels seen it has the fields of a row of nothing but plain ones
+  pub row_on : (n : ℕ) (q : GroundRow) → ((l : Label) → is_plain (q l) ≡ true) → (d : GroundField) × HasDefault q d
+      → (k : ℕ) × ((i : ℕ) → k ≤ i → (l : Label) → listed l seen ≡ false → f (at i) l ≡ q l) → Summed at Among Weighs f seen n → RowMeasured at Among f n
+  row_on n q plain default rest h = (row, (h.1.0 + rest.0, settled), (default.0, default_plain, (seen ++ default.1.0, by_default)), formed, (h.3.0, weighs, h.3.3), low)
     where
       row : GroundRow
-      row l = if listed l seen then h.0 l else d
+      row l = if listed l seen then h.0 l else q l
+
+      default_plain : is_plain default.0 ≡ true
+      default_plain =
+          let l : (l : Label) × (listed l default.1.0 ≡ false) × (listed l [] ≡ false) = fresh_label default.1.0 [] in
+          ap is_plain (sym (default.1.1 l.0 l.1)) ∙ plain l.0
+
+      by_default : (l : Label) → listed l (seen ++ default.1.0) ≡ false → row l ≡ default.0
+      by_default l e =
+          let apart : (listed l seen ≡ false) × (listed l default.1.0 ≡ false) = neither (listed l seen) (listed l default.1.0) (sym (listed_append l seen default.1.0) ∙ e) in
+          passed (listed l seen) (h.0 l) (q l) apart.0 ∙ default.1.1 l apart.1
 
       settled : (i : ℕ) → h.1.0 + rest.0 ≤ i → (l : Label) → f (at i) l ≡ row l
       settled i le l =
-          by_cases (listed l seen) (λ e. h.1.1 i (omega arith) l e ∙ sym (chosen (listed l seen) (h.0 l) d e))
-          (λ e. rest.1 i (omega arith) l e ∙ sym (passed (listed l seen) (h.0 l) d e))
+          by_cases (listed l seen) (λ e. h.1.1 i (omega arith) l e ∙ sym (chosen (listed l seen) (h.0 l) (q l) e))
+          (λ e. rest.1 i (omega arith) l e ∙ sym (passed (listed l seen) (h.0 l) (q l) e))
 
       formed : (l : Label) → IsWellFormedField (row l)
       formed l =
-          by_cases (listed l seen) (λ e. subst IsWellFormedField (sym (chosen (listed l seen) (h.0 l) d e)) (h.2 l))
-          (λ e. subst IsWellFormedField (sym (passed (listed l seen) (h.0 l) d e)) (plain_formed d plain))
+          by_cases (listed l seen) (λ e. subst IsWellFormedField (sym (chosen (listed l seen) (h.0 l) (q l) e)) (h.2 l))
+          (λ e. subst IsWellFormedField (sym (passed (listed l seen) (h.0 l) (q l) e)) (plain_formed (q l) (plain l)))
 
       weighs : (l : Label) → Weighs (row l) (h.3.0 l)
       weighs l =
-          by_cases (listed l seen) (λ e. subst (λ g. Weighs g (h.3.0 l)) (sym (chosen (listed l seen) (h.0 l) d e)) (h.3.1 l e))
-          (λ e. subst (λ g. Weighs g (h.3.0 l)) (sym (passed (listed l seen) (h.0 l) d e)) (plain_weighs d (h.3.0 l) plain))
+          by_cases (listed l seen) (λ e. subst (λ g. Weighs g (h.3.0 l)) (sym (chosen (listed l seen) (h.0 l) (q l) e)) (h.3.1 l e))
+          (λ e. subst (λ g. Weighs g (h.3.0 l)) (sym (passed (listed l seen) (h.0 l) (q l) e)) (plain_weighs (q l) (h.3.0 l) (plain l)))
 
       low : (s : Solution) → Among s → (weight : Label → ℕ) → ((l : Label) → Weighs (f s l) (weight l)) → (m : ℕ) → Sums weight m → n ≤ m
       low s among weight all m sums =
@@ -187,6 +170,11 @@ module _ (at : ℕ → Solution) (Among : Solution → Type 0) (f : Solution →
           let before : n ≤ total weight v.0 = v.3 in
           let whole : total weight v.0 ≤ m = sums v.0 v.1 in
           omega arith
+
+  -- off the labels seen it has one plain field
+  pub row_whole : (n : ℕ) (d : GroundField) → is_plain d ≡ true → (k : ℕ) × ((i : ℕ) → k ≤ i → (l : Label) → listed l seen ≡ false → f (at i) l ≡ d)
+      → Summed at Among Weighs f seen n → RowMeasured at Among f n
+  row_whole n d plain rest h = row_on n (λ l. d) (λ l. plain) (d, ([], λ l e. refl)) rest h
 
   -- a rest that is plain in no solution
   pub row_refused : (room : ℕ) (d : Solution → GroundField) → ((s : Solution) → Among s → (l : Label) → listed l seen ≡ false → f s l ≡ d s)

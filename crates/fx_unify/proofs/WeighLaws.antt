@@ -1,55 +1,38 @@
 -- What fields weigh, and what functions count.
-use Rattle.std.proofs.Common.{◌≡◌, ◌≢◌, refl, sym, ap, subst, ◌∙◌, ℕ, zero, suc, ◌+◌, ◌-◌, ◌≤◌, ◌<◌, Bool, true, false, List, [], ◌∷◌, ◌++◌, map, take, drop, get_or, length, Option, None, Some, option_map, Result, Ok, Err, arith}
+use Rattle.std.proofs.Common.{◌≡◌, refl, sym, ap, subst, ◌∙◌, ℕ, ◌+◌, ◌-◌, ◌≤◌, Bool, true, false, List, map, Option, None, Some, option_map, Result, Ok, Err, arith}
+use Rattle.std.specs.Borrow.{Bor}
 use Rattle.std.specs.Prelude.{if◌then◌else◌}
-use Rattle.std.proofs.lemmas.List.{drop_more, take_more, map-append}
 use mathlib.Core.Bool.{true≢false}
-use Rattle.fx_base.specs.Text.{same_text}
-use Rattle.fx_types.proofs.Choices.{by_cases, chosen, passed, never}
-use Rattle.fx_types.proofs.PlainLaws.{weighs_plain}
-use Rattle.fx_types.proofs.RowSums.{same_is, same_itself}
-use Rattle.fx_types.proofs.ShapeLaws.{entry_is, labelled_is, row_is, function_is, term_bool, term_int, term_text, term_time, term_span, term_pattern, term_done, term_variable, field_absent, field_is, field_var}
 use Rattle.fx_types.specs.declared.term.FieldTy.{FieldTy}
-use Rattle.fx_types.specs.declared.term.FieldTy.TheVariants as fields
 use Rattle.fx_types.specs.declared.term.FunTy.{FunTy}
-use Rattle.fx_types.specs.declared.term.LabelField.{LabelField}
-use Rattle.fx_types.specs.declared.term.LabelTy.{LabelTy}
-use Rattle.fx_types.specs.declared.term.RowTy.{RowTy}
 use Rattle.fx_types.specs.declared.term.Ty.{Ty}
-use Rattle.fx_types.specs.declared.term.Ty.TheVariants as ty
-use Rattle.fx_types.specs.declared.term.Rest.TheVariants as rests
-use Rattle.fx_types.specs.declared.term.FieldTy.TheViews.{out-RowTy, out-FunTy}
+use Rattle.fx_types.specs.declared.term.FieldTy.TheViews.{out-FunTy}
 use Rattle.fx_types.specs.Term.{Label, Term, bool, int, text, time, span, pattern, done, type_variable, array, fun, rec, stream}
-use Rattle.fx_types.specs.Ground.{Ground, GroundField, GroundRow, g_bool, g_int, g_text, g_time, g_span, g_pattern, g_done, g_array, g_fun, g_rec, g_stream, g_absent, g_is, is_plain, is_column, listed, IsWellFormed, IsWellFormedField}
-use Rattle.fx_types.specs.Instance.{Solution, ground, ground_field, ground_fields, ground_labels, ground_pipe, ground_tail}
-use Rattle.fx_types.specs.Shape.{term, field_term, entry_term, label_term, rest_term, row_term, fun_term, fields_of, labels_of, pipe_of}
-use Rattle.fx_types.specs.Size.{AreDistinct, total, AtMost, Weighs, Takes, Pipes}
+use Rattle.fx_types.specs.Ground.{Ground, GroundField, GroundRow, g_bool, g_int, g_text, g_time, g_fun, g_absent, g_is, is_column, listed}
+use Rattle.fx_types.specs.Instance.{Solution, ground, ground_field, ground_labels, ground_pipe}
+use Rattle.fx_types.specs.Shape.{term, field_term, label_term, fun_term, labels_of, pipe_of}
+use Rattle.fx_types.specs.Size.{Weighs, Takes, Pipes}
 use Rattle.fx_unify.specs.declared.fault.UnifyFault.{UnifyFault}
 use Rattle.fx_unify.specs.declared.fault.UnifyFault.TheVariants as fault
 use Rattle.fx_unify.specs.declared.sorts.Sorts as sorts
-use Rattle.fx_unify.specs.declared.field.Field as code
-use Rattle.fx_unify.specs.declared.field.Field.TheVariants as fd
-use Rattle.fx_unify.specs.declared.store.Column as columns
-use Rattle.fx_unify.specs.declared.store.Root as roots
-use Rattle.fx_unify.specs.declared.store.Root.TheVariants as root
+use Rattle.fx_unify.specs.declared.view.View as code
+use Rattle.fx_unify.specs.declared.view.View.TheVariants as views
 use Rattle.fx_unify.specs.declared.store.Store as stores
-use Rattle.fx_unify.specs.Least.{steps, Leads, RestLeads}
-use Rattle.fx_unify.specs.Measure.{least, Admits, Settles, Measured, Measuring, Sums, RowMeasured, RowMeasuring}
-use Rattle.fx_unify.specs.Part.{Part, p_is, p_slot, part, part_of, value, type_node, slot_node, Solved}
-use Rattle.fx_unify.specs.Rows.{ground_row}
+use Rattle.fx_unify.specs.Least.{Leads}
+use Rattle.fx_unify.specs.Measure.{least, Admits, Measuring}
+use Rattle.fx_unify.specs.Part.{Part, p_is, part_of, value, Solved}
 use Rattle.fx_unify.specs.Sorts.{plain_values, plainest_of, set_at, allows, is_light}
-use Rattle.fx_unify.specs.Store.{entry, bound_to, root_at, slot_in, known, IsFree}
-use Rattle.fx_unify.specs.Sums.{Summed, Summing, names, row_names, row_rest, required_names, column_names}
-use Rattle.fx_unify.proofs.Cases.{Form, is_bool, is_int, is_text, is_time, is_span, is_pattern, is_done, is_variable, is_array, is_fun, is_rec, is_stream, form_of}
-use Rattle.fx_unify.proofs.HeadLaws.{ground_array, ground_fun, ground_rec, ground_stream, pipe_part, result_part, labels_part}
-use Rattle.fx_unify.proofs.LeastLaws.{bound_step, free_type, free_field, free_slot, led, measured_before}
-use Rattle.fx_unify.proofs.MeasureLaws.{more_nodes, some_node, more_weight, more_taken, no_room, one_node, restated_measure, counts_none, measured_array, array_over, measured_record, record_over, measured_stream, stream_over, measured_taken, taken_over, taken_no_room, measured_field, field_over, field_no_room, measured_function, labels_over, pipe_over, result_over}
-use Rattle.fx_unify.proofs.RowLaws.{value_of, ground_row_is}
-use Rattle.fx_unify.proofs.StoreLaws.{off_columns}
-use Rattle.fx_unify.proofs.SumLaws.{listed_one_more, sum_start, sum_skip, sum_add, sum_over, row_whole, row_refused, row_over}
-use Rattle.fx_unify.specs.Part.{p_field}
-use Rattle.fx_unify.specs.Part.{field_node}
+use Rattle.fx_unify.specs.Store.{entry, bound_to}
+use Rattle.fx_unify.specs.Sums.{Summing, required_names}
+use Rattle.fx_unify.specs.View.{part_seen, field_bound_to}
+use Rattle.fx_unify.proofs.HeadLaws.{pipe_part, result_part, labels_part}
+use Rattle.fx_unify.proofs.LeastLaws.{free_type, free_field, free_slot}
+use Rattle.fx_unify.proofs.MeasureLaws.{no_room, restated_measure, counts_none, measured_field, field_over, field_no_room, measured_function, labels_over, pipe_over, result_over}
+use Rattle.fx_unify.proofs.RowLaws.{value_of}
 use Rattle.fx_unify.proofs.SolvingLaws.{type_is}
 use Rattle.fx_unify.proofs.CountLaws.{answered, plainest_formed, off_required}
+use Rattle.fx_types.proofs.Choices.{never, by_cases}
+use Rattle.fx_unify.specs.Light.{IsLightField}
 
 -- a set with a kind of columns in it
 
@@ -78,7 +61,7 @@ allows_column k g_text e c = by_text k.integer k.boolean k.text _ e
 allows_column k g_time e c = by_time k.integer k.boolean k.text k.time _ e
 allows_column k _ e c = absurd (true≢false (sym c))
 
-light_term : (st : stores.Store) (ks : List sorts.Sorts) (x : Term) (room : ℕ) → is_light ks x ≡ true → bound_to (entry st) (p_is x) ≡ None
+pub light_term : (st : stores.Store) (ks : List sorts.Sorts) (x : Term) (room : ℕ) → is_light ks x ≡ true → bound_to (entry st) (p_is x) ≡ None
     → Measuring (Ok 0) (least st ks) (Admits st ks) Weighs (λ s. g_is (ground s x)) room
 light_term st ks bool room e free = counts_none (least st ks) (Admits st ks) Weighs (λ s. g_is g_bool) (g_is g_bool) 0 room (λ n le. refl) tt (λ f. absurd (true≢false f))
 light_term st ks int room e free = counts_none (least st ks) (Admits st ks) Weighs (λ s. g_is g_int) (g_is g_int) 0 room (λ n le. refl) tt (λ f. absurd (true≢false f))
@@ -109,82 +92,52 @@ module _ (st : stores.Store) (ks : List sorts.Sorts) (t head : Ty) (way : Leads 
   abbrev Whole : Result ℕ UnifyFault → Type 0
   Whole r = Measuring r (least st ks) (Admits st ks) Weighs (λ s. g_is (ground s (term t))) room
 
-  heavy : b ≡ false → (s : Solution) → Admits st ks s → is_column (ground s (term head)) ≡ false
-  heavy e = heavy_term st ks (term head) (sym light ∙ e)
+  heavy : b ≡ false → (s : Solution) → Admits st ks s → is_column (ground s (term t)) ≡ false
+  heavy e s among = ap is_column ((type_is (ground s (term t)) (ground s (term head))).0 (sym (same s among.0))) ∙ heavy_term st ks (term head) (sym light ∙ e) s among
 
   pub weighs_nothing : b ≡ true → bound_to (entry st) (p_is (term head)) ≡ None → Whole (Ok 0)
   weighs_nothing e free = answered st ks t head way same Weighs (λ s. ground s (term head)) (λ s. refl) (Ok 0) room (light_term st ks (term head) room (sym light ∙ e) free)
 
   pub weighs_no_room : b ≡ false → room ≡ 0 → Whole (Err fault.Clash)
-  weighs_no_room e none =
-      answered st ks t head way same Weighs (λ s. ground s (term head)) (λ s. refl) (Err fault.Clash) room
-      (field_no_room (least st ks) (Admits st ks) (λ s. ground s (term head)) room none (heavy e))
+  weighs_no_room e none = field_no_room (least st ks) (Admits st ks) (λ s. ground s (term t)) room none (heavy e)
 
-  pub weighs_more : (n : ℕ) → b ≡ false → 1 ≤ room → Measuring (Ok n) (least st ks) (Admits st ks) Pipes (λ s. g_is (ground s (term head))) (room - 1) → Whole (Ok (n + 1))
-  weighs_more n e one h =
-      answered st ks t head way same Weighs (λ s. ground s (term head)) (λ s. refl) (Ok (n + 1)) room
-      (measured_field (least st ks) (Admits st ks) (λ s. ground s (term head)) n (heavy e) h.0, (let le : n ≤ room - 1 = h.1 in omega arith))
+  pub weighs_more : (n : ℕ) → b ≡ false → 1 ≤ room → Measuring (Ok n) (least st ks) (Admits st ks) Pipes (λ s. g_is (ground s (term t))) (room - 1) → Whole (Ok (n + 1))
+  weighs_more n e one h = (measured_field (least st ks) (Admits st ks) (λ s. ground s (term t)) n (heavy e) h.0, (let le : n ≤ room - 1 = h.1 in omega arith))
 
-  pub weighs_over : (f : UnifyFault) → b ≡ false → 1 ≤ room → Measuring (Err f) (least st ks) (Admits st ks) Pipes (λ s. g_is (ground s (term head))) (room - 1) → Whole (Err f)
-  weighs_over fault.Clash e one h =
-      answered st ks t head way same Weighs (λ s. ground s (term head)) (λ s. refl) (Err fault.Clash) room
-      (field_over (least st ks) (Admits st ks) (λ s. ground s (term head)) room one (heavy e) h)
+  pub weighs_over : (f : UnifyFault) → b ≡ false → 1 ≤ room → Measuring (Err f) (least st ks) (Admits st ks) Pipes (λ s. g_is (ground s (term t))) (room - 1) → Whole (Err f)
+  weighs_over fault.Clash e one h = field_over (least st ks) (Admits st ks) (λ s. ground s (term t)) room one (heavy e) h
   weighs_over fault.Memory e one h = tt
 
--- parts
+-- lent fields
 
-pub nothing_found : (st : stores.Store) (ks : List sorts.Sorts) (C : GroundField → ℕ → Type 0) (f : code.Field) (room : ℕ) → C g_absent 0 → ((t : Ty) → f ≡ fd.Is t → ⊥)
-    → bound_to (entry st) (part f) ≡ None → Measuring (Ok 0) (least st ks) (Admits st ks) C (λ s. value s (part f)) room
-nothing_found st ks C fd.Absent room none apart free = counts_none (least st ks) (Admits st ks) C (λ s. g_absent) g_absent 0 room (λ n le. refl) tt none
-nothing_found st ks C (fd.Is t) room none apart free = absurd (apart t refl)
-nothing_found st ks C (fd.Var m) room none apart free =
+pub nothing_found : (st : stores.Store) (ks : List sorts.Sorts) (C : GroundField → ℕ → Type 0) (v : code.View) (room : ℕ) → C g_absent 0 → ((t : Bor Ty) → v ≡ views.Is t → ⊥)
+    → field_bound_to (entry st) (part_seen v) ≡ None → Measuring (Ok 0) (least st ks) (Admits st ks) C (λ s. value s (part_seen v)) room
+nothing_found st ks C views.Absent room none apart free = counts_none (least st ks) (Admits st ks) C (λ s. g_absent) g_absent 0 room (λ n le. refl) tt none
+nothing_found st ks C (views.Is t) room none apart free = absurd (apart t refl)
+nothing_found st ks C (views.Var m) room none apart free =
     counts_none (least st ks) (Admits st ks) C (λ s. s.field_of m) g_absent 0 room (λ n le. free_field (entry st) (plain_values ks) m n free) tt none
-nothing_found st ks C (fd.Slot r l) room none apart free =
-    counts_none (least st ks) (Admits st ks) C (λ s. s.row_of r l) g_absent 0 room (λ n le. free_slot (entry st) (plain_values ks) r l n free) tt none
+nothing_found st ks C (views.Slot r l) room none apart free =
+    counts_none (least st ks) (Admits st ks) C (λ s. s.row_of r l.now) g_absent 0 room (λ n le. free_slot (entry st) (plain_values ks) r l.now n free) tt none
 
-pub part_led : (st : stores.Store) (ks : List sorts.Sorts) (C : GroundField → ℕ → Type 0) (f copy found : code.Field) (r : Result ℕ UnifyFault) (room : ℕ) → copy ≡ f
-    → Leads (entry st) (part copy) (part found) → ((s : Solution) → Solved s (entry st) → value s (part found) ≡ value s (part copy))
-    → Measuring r (least st ks) (Admits st ks) C (λ s. value s (part found)) room → Measuring r (least st ks) (Admits st ks) C (λ s. value s (part f)) room
-part_led st ks C f copy found r room is way same h =
-    subst (λ g. Measuring r (least st ks) (Admits st ks) C (λ s. value s (part g)) room) is (led st ks C (part copy) (part found) way same r room h)
+-- a field that is no type, and isn't bound, is plain in the least solution
+pub nothing_light : (st : stores.Store) (ks : List sorts.Sorts) (v : code.View) → ((t : Bor Ty) → v ≡ views.Is t → ⊥) → bound_to (entry st) (part_seen v) ≡ None → IsLightField st ks (part_seen v)
+nothing_light st ks views.Absent apart free = (g_absent, (0, λ n le. refl), refl)
+nothing_light st ks (views.Is t) apart free = absurd (apart t refl)
+nothing_light st ks (views.Var m) apart free = (g_absent, (0, λ n le. free_field (entry st) (plain_values ks) m n free), refl)
+nothing_light st ks (views.Slot r l) apart free = (g_absent, (0, λ n le. free_slot (entry st) (plain_values ks) r l.now n free), refl)
 
-pub found_type : (st : stores.Store) (ks : List sorts.Sorts) (C : GroundField → ℕ → Type 0) (found : code.Field) (t : Ty) (r : Result ℕ UnifyFault) (room : ℕ) → found ≡ fd.Is t
-    → Measuring r (least st ks) (Admits st ks) C (λ s. g_is (ground s (term t))) room → Measuring r (least st ks) (Admits st ks) C (λ s. value s (part found)) room
-found_type st ks C found t r room e h = subst (λ g. Measuring r (least st ks) (Admits st ks) C (λ s. value s (part g)) room) (sym e) h
+pub found_type : (st : stores.Store) (ks : List sorts.Sorts) (C : GroundField → ℕ → Type 0) (v : code.View) (t : Bor Ty) (r : Result ℕ UnifyFault) (room : ℕ) → v ≡ views.Is t
+    → Measuring r (least st ks) (Admits st ks) C (λ s. g_is (ground s (term t.now))) room → Measuring r (least st ks) (Admits st ks) C (λ s. value s (part_seen v)) room
+found_type st ks C v t r room e h = subst (λ w. Measuring r (least st ks) (Admits st ks) C (λ s. value s (part_seen w)) room) (sym e) h
 
-pub same_measure : (st : stores.Store) (ks : List sorts.Sorts) (f : FieldTy) (x : Solution → GroundField) (r : Result ℕ UnifyFault) (room : ℕ)
-    → ((s : Solution) → ground_field s (field_term f) ≡ x s) → Measuring r (least st ks) (Admits st ks) Weighs x room
-    → Measuring r (least st ks) (Admits st ks) Weighs (λ s. ground_field s (field_term f)) room
-same_measure st ks f x r room is h = restated_measure (least st ks) (Admits st ks) Weighs (λ s. ground_field s (field_term f)) x is r room h
+pub viewed : (st : stores.Store) (ks : List sorts.Sorts) (C : GroundField → ℕ → Type 0) (p q : Part) (r : Result ℕ UnifyFault) (room : ℕ) → p ≡ q
+    → Measuring r (least st ks) (Admits st ks) C (λ s. value s p) room → Measuring r (least st ks) (Admits st ks) C (λ s. value s q) room
+viewed st ks C p q r room e h = subst (λ x. Measuring r (least st ks) (Admits st ks) C (λ s. value s x) room) e h
 
-pub absent_weighs : (st : stores.Store) (ks : List sorts.Sorts) (f : FieldTy) (room : ℕ) → f ≡ fields.Absent → Measuring (Ok 0) (least st ks) (Admits st ks) Weighs (λ s. ground_field s (field_term f)) room
-absent_weighs st ks f room e =
-    same_measure st ks f (λ s. g_absent) (Ok 0) room (λ s. ap (ground_field s) (ap field_term e ∙ field_absent))
-    (counts_none (least st ks) (Admits st ks) Weighs (λ s. g_absent) g_absent 0 room (λ n le. refl) tt tt)
-
-pub type_weighs : (st : stores.Store) (ks : List sorts.Sorts) (f : FieldTy) (t : Ty) (r : Result ℕ UnifyFault) (room : ℕ) → f ≡ fields.Is t
-    → Measuring r (least st ks) (Admits st ks) Weighs (λ s. g_is (ground s (term t))) room → Measuring r (least st ks) (Admits st ks) Weighs (λ s. ground_field s (field_term f)) room
-type_weighs st ks f t r room e h = same_measure st ks f (λ s. g_is (ground s (term t))) r room (λ s. ap (ground_field s) (ap field_term e ∙ field_is t)) h
-
-pub variable_weighs : (st : stores.Store) (ks : List sorts.Sorts) (f : FieldTy) (n : ℕ) (r : Result ℕ UnifyFault) (room : ℕ) → f ≡ fields.Var n
-    → Measuring r (least st ks) (Admits st ks) Weighs (λ s. s.field_of n) room → Measuring r (least st ks) (Admits st ks) Weighs (λ s. ground_field s (field_term f)) room
-variable_weighs st ks f n r room e h = same_measure st ks f (λ s. s.field_of n) r room (λ s. ap (ground_field s) (ap field_term e ∙ field_var n)) h
-
--- slots
-
-pub slot_weighs : (st : stores.Store) (ks : List sorts.Sorts) (n : ℕ) (l : Label) (f : code.Field) (o : Option code.Field) (r : Result ℕ UnifyFault) (room : ℕ) → o ≡ Some f
-    → Measuring r (least st ks) (Admits st ks) Weighs (λ s. value s (part f)) room → entry st (slot_node n l) ≡ option_map part o
-    → Measuring r (least st ks) (Admits st ks) Weighs (λ s. s.row_of n l) room
-slot_weighs st ks n l f o r room is h at =
-    let bound : entry st (slot_node n l) ≡ Some (part f) = at ∙ ap (option_map part) is in
-    measured_before st ks Weighs (λ s. s.row_of n l) (λ s. value s (part f)) 1
-    (λ i. (let next : i + 1 ≡ suc i = omega arith in ap (λ j. (least st ks j).row_of n l) next ∙ bound_step st (p_slot n l) (part f) bound (plain_values ks) i))
-    (λ s solved. sym (solved (slot_node n l) (part f) bound)) r room h
-
-pub free_slot_weighs : (st : stores.Store) (ks : List sorts.Sorts) (n : ℕ) (l : Label) (o : Option code.Field) (room : ℕ) → o ≡ None → entry st (slot_node n l) ≡ option_map part o
-    → Measuring (Ok 0) (least st ks) (Admits st ks) Weighs (λ s. s.row_of n l) room
-free_slot_weighs st ks n l o room is at =
-    counts_none (least st ks) (Admits st ks) Weighs (λ s. s.row_of n l) g_absent 0 room (λ i le. free_slot (entry st) (plain_values ks) n l i (at ∙ ap (option_map part) is)) tt tt
+pub field_weighs : (st : stores.Store) (ks : List sorts.Sorts) (f : FieldTy) (p : Part) (r : Result ℕ UnifyFault) (room : ℕ) → p ≡ part_of (field_term f)
+    → Measuring r (least st ks) (Admits st ks) Weighs (λ s. value s p) room → Measuring r (least st ks) (Admits st ks) Weighs (λ s. ground_field s (field_term f)) room
+field_weighs st ks f p r room e h =
+    restated_measure (least st ks) (Admits st ks) Weighs (λ s. ground_field s (field_term f)) (λ s. value s p) (λ s. sym (value_of s (field_term f)) ∙ ap (value s) (sym e)) r room h
 
 -- functions
 

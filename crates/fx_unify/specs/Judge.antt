@@ -1,5 +1,5 @@
 -- Whether a solution within the limit is left that keeps the bounds and makes some terms types.
-use Rattle.std.specs.Prelude.{◌≡◌, ℕ, List, [], ◌∷◌, Result, Ok, Err}
+use Rattle.std.specs.Prelude.{ℕ, List, [], ◌∷◌, Result, Ok, Err}
 use Rattle.fx_types.specs.declared.term.Ty as types
 use Rattle.fx_types.specs.Ground.{g_is}
 use Rattle.fx_types.specs.Instance.{Solution, ground}

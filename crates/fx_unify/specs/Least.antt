@@ -3,11 +3,11 @@
 -- from which on nothing changes.
 use Rattle.std.specs.Prelude.{◌≡◌, ℕ, zero, suc, ◌+◌, false, Option, None, Some, List}
 use Rattle.fx_types.specs.Term.{Label, Tail}
-use Rattle.fx_types.specs.Ground.{Ground, GroundField, g_absent, g_is}
+use Rattle.fx_types.specs.Ground.{Ground, GroundField, g_absent, g_is, listed}
 use Rattle.fx_types.specs.Instance.{Solution, ground_tail}
 use Rattle.fx_unify.specs.declared.store.Root as roots
 use Rattle.fx_unify.specs.declared.store.Store as stores
-use Rattle.fx_unify.specs.Store.{root_at, entry, known}
+use Rattle.fx_unify.specs.Store.{root_at, entry}
 use Rattle.fx_unify.specs.Part.{Part, value, Entries, type_node, field_node, slot_node}
 
 abbrev pub type_or : Ground → GroundField → Ground
@@ -35,13 +35,13 @@ steps e plain (suc n) = one_step e plain (steps e plain n)
 abbrev pub Leads : Entries → Part → Part → Type 0
 Leads e p q = (d : ℕ) × ((plain : Solution) (n : ℕ) → value (steps e plain (n + d)) p ≡ value (steps e plain n) q)
 
--- off the columns, the row has the steps of the root, some later
-abbrev pub RowLeads : stores.Store → ℕ → roots.Root → Type 0
-RowLeads st r o =
-    (d : ℕ) × ((plain : Solution) (n : ℕ) (l : Label) → known l st.columns.items ≡ false
+-- off the labels, the row has the steps of the root, some later
+abbrev pub RowLeads : stores.Store → List Label → ℕ → roots.Root → Type 0
+RowLeads st ls r o =
+    (d : ℕ) × ((plain : Solution) (n : ℕ) (l : Label) → listed l ls ≡ false
     → (steps (entry st) plain (n + d)).row_of r l ≡ value (steps (entry st) plain n) (root_at l o))
 
-abbrev pub RestLeads : stores.Store → Tail → roots.Root → Type 0
-RestLeads st t o =
-    (d : ℕ) × ((plain : Solution) (n : ℕ) (l : Label) → known l st.columns.items ≡ false
+abbrev pub RestLeads : stores.Store → List Label → Tail → roots.Root → Type 0
+RestLeads st ls t o =
+    (d : ℕ) × ((plain : Solution) (n : ℕ) (l : Label) → listed l ls ≡ false
     → ground_tail (steps (entry st) plain (n + d)) t l ≡ value (steps (entry st) plain n) (root_at l o))

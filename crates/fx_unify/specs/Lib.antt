@@ -1,9 +1,12 @@
 pub mod Bounds
+pub mod Counted
 pub mod Decide
 pub mod Judge
 pub mod Least
+pub mod Light
 pub mod Measure
 pub mod Part
+pub mod Pick
 pub mod PutIn
 pub mod Rows
 pub mod Smaller
@@ -12,4 +15,6 @@ pub mod Sorts
 pub mod Store
 pub mod Sums
 pub mod Tag
+pub mod Tails
+pub mod View
 pub mod Work

@@ -1,8 +1,8 @@
 -- How many nodes a part has in the least solution, and that it has no fewer in any other one. Here
 -- `at` are the steps of the least solution, and `Among` says which solutions count.
-use Rattle.std.specs.Prelude.{◌≡◌, ℕ, ◌+◌, ◌≤◌, List, Result, Ok, Err, IsTrue}
+use Rattle.std.specs.Prelude.{◌≡◌, ℕ, ◌≤◌, List, Result, Ok, Err, IsTrue}
 use Rattle.fx_types.specs.Term.{Label}
-use Rattle.fx_types.specs.Ground.{Ground, GroundField, GroundRow, is_plain, HasDefault, IsWellFormedField}
+use Rattle.fx_types.specs.Ground.{GroundField, GroundRow, is_plain, HasDefault, IsWellFormedField}
 use Rattle.fx_types.specs.Instance.{Solution}
 use Rattle.fx_types.specs.Size.{AreDistinct, total, Weighs}
 use Rattle.fx_unify.specs.declared.fault.UnifyFault as faults

@@ -1,26 +1,28 @@
 -- Rows of terms.
 use Rattle.std.specs.Prelude.{◌≡◌, true, List, [], ◌∷◌, ◌++◌, map}
-use Rattle.fx_types.specs.Term.{Label, Fields, no_fields, more_fields, is, Row}
+use Rattle.fx_types.specs.Term.{Label, is, Row}
 use Rattle.fx_types.specs.declared.term.LabelField as entries
 use Rattle.fx_types.specs.declared.term.LabelTy as labels
-use Rattle.fx_types.specs.Shape.{OfField, term, entry_term, label_term, fields_of, labels_of}
-use Rattle.fx_types.specs.Ground.{GroundRow}
+use Rattle.fx_types.specs.Shape.{OfField, term, entry_term, label_term, rest_term, fields_of, labels_of}
+use Rattle.fx_types.specs.Ground.{GroundRow, listed}
 use Rattle.fx_types.specs.Instance.{Solution, ground_fields, ground_labels, ground_tail}
-use Rattle.fx_unify.specs.declared.store.Column as columns
-use Rattle.fx_unify.specs.Store.{known}
+use Rattle.fx_types.specs.Size.{AreDistinct}
+use Rattle.fx_unify.specs.declared.pick.Entries as picks
 
 abbrev pub ground_row : Solution → Row → GroundRow
 ground_row s r = ground_fields s r.fields (ground_tail s r.rest)
 
--- each listed label has a column
-abbrev pub AllKnown : Fields → List columns.Column → Type 0
-AllKnown no_fields cs = Unit {0}
-AllKnown (more_fields x f fs) cs = (known x cs ≡ true) × AllKnown fs cs
+abbrev pub ground_entries : Solution → picks.Entries → GroundRow
+ground_entries s e = ground_fields s (fields_of (map entry_term e.fields.items)) (ground_tail s (rest_term e.rest))
 
--- the two rows have the same at each column
-abbrev pub SameAt : GroundRow → GroundRow → List columns.Column → Type 0
+-- a list of labels got more of them, none twice
+abbrev pub Grows : List Label → List Label → Type 0
+Grows ls ms = ((l : Label) → listed l ls ≡ true → listed l ms ≡ true) × (AreDistinct ls → AreDistinct ms)
+
+-- the two rows have the same at each of the labels
+abbrev pub SameAt : GroundRow → GroundRow → List Label → Type 0
 SameAt r q [] = Unit {0}
-SameAt r q (c ∷ cs) = (r c.label ≡ q c.label) × SameAt r q cs
+SameAt r q (l ∷ ls) = (r l ≡ q l) × SameAt r q ls
 
 -- the entry of a row that a required label is
 abbrev pub as_field : labels.LabelTy → OfField

@@ -1,17 +1,16 @@
 -- What some labels of a row count together: those that were looked at.
-use Rattle.std.specs.Prelude.{◌≡◌, ℕ, ◌≤◌, true, false, List, [], ◌∷◌, Result, Ok, Err, map}
+use Rattle.std.specs.Prelude.{◌≡◌, ℕ, ◌≤◌, true, false, List, Result, Ok, Err, map}
 use Rattle.fx_types.specs.Term.{Label}
 use Rattle.fx_types.specs.declared.term.FieldTy.TheViews.{out-RowTy}
 use Rattle.fx_types.specs.declared.term.LabelField as entries
 use Rattle.fx_types.specs.declared.term.Rest as rests
 use Rattle.fx_types.specs.declared.term.RowTy as rows
 use Rattle.fx_types.specs.declared.term.LabelTy as labels
-use Rattle.fx_types.specs.Ground.{Ground, GroundField, GroundRow, IsWellFormedField, listed}
+use Rattle.fx_types.specs.Ground.{GroundField, GroundRow, IsWellFormedField, listed}
 use Rattle.fx_types.specs.Instance.{Solution}
 use Rattle.fx_types.specs.Size.{AreDistinct, total}
 use Rattle.fx_unify.specs.declared.fault.UnifyFault as faults
 use Rattle.fx_unify.specs.declared.fault.UnifyFault.TheVariants as fault
-use Rattle.fx_unify.specs.declared.store.Column as columns
 use Rattle.fx_unify.specs.Measure.{Sums}
 
 abbrev pub names : List entries.LabelField → List Label
@@ -25,9 +24,6 @@ row_rest r = (out-RowTy r).rest
 
 abbrev pub required_names : List labels.LabelTy → List Label
 required_names = map (λ e. e.label)
-
-abbrev pub column_names : List columns.Column → List Label
-column_names = map (λ c. c.label)
 
 -- the labels `seen` of the row count n together in the least solution, and no less in any other
 abbrev pub Summed : (ℕ → Solution) → (Solution → Type 0) → (GroundField → ℕ → Type 0) → (Solution → GroundRow) → List Label → ℕ → Type 0

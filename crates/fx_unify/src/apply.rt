@@ -4,13 +4,13 @@ ghost use Rattle.std.specs.Prelude.{◌≡◌, IfOk, map, option_map};
 ghost use Rattle.fx_types.specs.Instance.{Solution, ground, ground_labels, ground_pipe, ground_field, ground_tail};
 ghost use Rattle.fx_types.specs.Shape.{term, fun_term, row_term, field_term, rest_term, label_term, entry_term, labels_of, fields_of, pipe_of};
 ghost use Rattle.fx_types.specs.Term.{Label, fun, rec};
-ghost use Rattle.fx_unify.specs.Part.{part, value, Solved};
+ghost use Rattle.fx_unify.specs.Part.{value, Solved};
 ghost use Rattle.fx_unify.specs.PutIn.{IsPutIn, LabelsPutIn, PipePutIn, FieldPutIn, FieldsPutIn, RestPutIn};
 ghost use Rattle.fx_unify.specs.Rows.{ground_row, SameLabels, SameFields};
 ghost use Rattle.fx_unify.specs.Store.{entry};
 
-use crate::field::Field;
 use crate::store::Store;
+use crate::view::View;
 use fx_base::{Boxed, List, Memory};
 use fx_types::{FieldTy, FunTy, LabelField, LabelTy, Rest, RowTy, Ty};
 use std::alloc::Global;
@@ -180,13 +180,13 @@ impl Store {
         ensures same { IfOk result (λ f. (s : Solution) → Solved s (entry self.now) → ground_field s (field_term f) ≡ s.field_of number) }
         ensures put_in { IfOk result (λ f. FieldPutIn (entry self.now) (field_term f)) }
     {
-        let found = self.resolve(alloc, Field::Var(number))?;
-        match &found {
-            Field::Absent => Ok(FieldTy::Absent),
-            Field::Is(ty) => Ok(FieldTy::Is(self.apply_type(alloc, ty, fuel)?)),
-            Field::Var(last) => Ok(FieldTy::Var(*last)),
+        let found = self.seen(View::Var(number))?;
+        match found {
+            View::Absent => Ok(FieldTy::Absent),
+            View::Is(ty) => Ok(FieldTy::Is(self.apply_type(alloc, ty, fuel)?)),
+            View::Var(last) => Ok(FieldTy::Var(last)),
             // a row's field at a label has no name in a term
-            Field::Slot(_, _) => Ok(FieldTy::Var(number)),
+            View::Slot(_, _) => Ok(FieldTy::Var(number)),
         }
     }
 }

@@ -12,6 +12,7 @@ ghost use Rattle.fx_unify.specs.PutIn.{IsApplied};
 ghost use Rattle.fx_unify.specs.Work.{Within, Refuses};
 
 use crate::bounds::Bound;
+use crate::counts::Counts;
 use crate::fault::UnifyFault;
 use crate::field::Field;
 use crate::numbers::numbers;
@@ -48,7 +49,8 @@ impl Bindings {
             store: Store {
                 types: Vec::new(alloc),
                 fields: Vec::new(alloc),
-                columns: Vec::new(alloc),
+                slots: Vec::new(alloc),
+                apart: Vec::new(alloc),
                 rests: Vec::new(alloc),
                 work: Vec::new(alloc),
             },
@@ -211,9 +213,11 @@ fn judge(alloc: Global, store: &Store, bounds: &[Bound], also: &[Ty]) -> Result<
         Ok(sorts) => sorts,
         Err(fault) => return Err(fault),
     };
-    match store.decide(alloc, sorts.as_slice()) {
+    let sets = sorts.as_slice();
+    let mut counts = Counts::none(alloc, store.types.len(), store.rows())?;
+    match store.decide(sets, &mut counts) {
         Ok(()) => {}
         Err(fault) => return Err(fault),
     }
-    store.check_terms(alloc, sorts.as_slice(), also)
+    store.check_terms(sets, &mut counts, also)
 }

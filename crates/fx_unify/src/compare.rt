@@ -1,61 +1,97 @@
 //! One equation between two rows.
 
-ghost use Rattle.std.specs.Prelude.{◌≡◌, ◌↔◌, OnOk, true, map};
+ghost use Rattle.std.specs.Prelude.{◌≡◌, ◌↔◌, false, None, OnOk};
+ghost use Rattle.fx_types.specs.Ground.{listed};
 ghost use Rattle.fx_types.specs.Instance.{Solution};
-ghost use Rattle.fx_types.specs.Shape.{row_term, entry_term, fields_of};
+ghost use Rattle.fx_types.specs.Shape.{row_term};
+ghost use Rattle.fx_types.specs.Size.{AreDistinct};
 ghost use Rattle.fx_types.specs.Term.{Label};
-ghost use Rattle.fx_unify.specs.Part.{Variable};
-ghost use Rattle.fx_unify.specs.Rows.{ground_row, AllKnown, SameAt};
-ghost use Rattle.fx_unify.specs.Store.{entry, known};
-ghost use Rattle.fx_unify.specs.Work.{Hold, Solving};
+ghost use Rattle.fx_unify.specs.Part.{value};
+ghost use Rattle.fx_unify.specs.Rows.{ground_row, SameAt};
+ghost use Rattle.fx_unify.specs.Store.{root_at, rest_of, AreKept, KeptAt};
+ghost use Rattle.fx_unify.specs.Tails.{Tells, IsReady};
+ghost use Rattle.fx_unify.specs.Work.{Hold, Holds};
 
 use crate::fault::UnifyFault;
-use crate::pick::pick;
-use crate::store::{Column, Store};
+use crate::field::Field;
+use crate::labels::add_names;
+use crate::pick::Entries;
+use crate::store::{Root, Store};
+use crate::tails::Tails;
 use crate::work::{Pair, put_off};
-use fx_base::{List, Memory};
-use fx_types::{LabelField, RowTy};
+use fx_base::{Memory, Text};
+use fx_types::RowTy;
 use std::alloc::Global;
 
 impl Store {
-    pub(crate) fn compare(&mut self, alloc: Global, a: &RowTy, b: &RowTy) -> Result<(), UnifyFault>
-        ensures { Solving result self.old self.new (λ s. ground_row s (row_term a.now) ≡ ground_row s (row_term b.now)) }
+    /// Makes two rows the same: at each label that one of them lists, or at which a row variable is
+    /// looked at by itself, and then off these labels.
+    pub(crate) fn compare(&mut self, alloc: Global, a: RowTy, b: RowTy) -> Result<(), Memory>
+        ensures { OnOk result ((s : Solution) → Holds s self.new ↔ (Holds s self.old × (ground_row s (row_term a) ≡ ground_row s (row_term b)))) }
     {
-        self.know_all(alloc, &a.fields)?;
-        self.know_all(alloc, &b.fields)?;
-        put_off_all(alloc, self.columns.as_slice(), &mut self.work, a, b)?;
-        let left = self.root(alloc, &a.rest)?;
-        let right = self.root(alloc, &b.rest)?;
-        self.join(left, right)
+        let mut labels = Vec::new(alloc);
+        add_names(&mut labels, a.fields.as_slice())?;
+        add_names(&mut labels, b.fields.as_slice())?;
+        let tails = self.tails(alloc, &a.rest, &b.rest, &mut labels)?;
+        put_off_all(alloc, &mut self.work, labels.as_slice(), a, b)?;
+        self.meet(alloc, tails, labels.as_slice())
     }
 
-    fn know_all(&mut self, alloc: Global, fields: &List<LabelField>) -> Result<(), Memory>
-        ensures same { OnOk result ((x : Variable) → entry self.new x ≡ entry self.old x) }
-        ensures known { OnOk result (AllKnown (fields_of (map entry_term fields.now)) self.new.columns.items) }
-        ensures more { OnOk result ((l : Label) → known l self.old.columns.items ≡ true → known l self.new.columns.items ≡ true) }
-        ensures work { self.new.work ≡ self.old.work }
+    /// Makes two rests the same off the labels.
+    fn meet(&mut self, alloc: Global, tails: Tails, labels: &[Text]) -> Result<(), Memory>
+        requires { IsReady self.old tails labels.now }
+        ensures { OnOk result ((s : Solution) → Holds s self.new ↔ (Holds s self.old × ((l : Label) → listed l labels.now ≡ false → Tells tails s l))) }
     {
-        for entry in fields.as_slice() {
-            self.know(alloc, &entry.label)?;
+        match tails {
+            Tails::Same => Ok(()),
+            Tails::Link(row, root) => self.link(alloc, row, root, labels),
+            Tails::Defaults(left, right) => put_off(
+                &mut self.work,
+                Field::from_term(left),
+                Field::from_term(right),
+            ),
+        }
+    }
+
+    /// Binds the rest of a free row variable, which is kept apart from it at the labels.
+    fn link(&mut self, alloc: Global, row: u32, root: Root, labels: &[Text]) -> Result<(), Memory>
+        requires free { rest_of self.old row ≡ None }
+        requires kept { AreKept self.old row labels.now }
+        ensures { OnOk result ((s : Solution) → Holds s self.new ↔ (Holds s self.old × ((l : Label) → listed l labels.now ≡ false → s.row_of row l ≡ value s (root_at l root)))) }
+    {
+        self.keep_all(alloc, row, labels)?;
+        self.bind_rest(row, root)
+    }
+
+    /// Keeps a free row variable apart from its rest at the labels.
+    fn keep_all(&mut self, alloc: Global, row: u32, labels: &[Text]) -> Result<(), Memory>
+        requires { rest_of self.old row ≡ None }
+        ensures { OnOk result (KeptAt self.old self.new row labels.now) }
+    {
+        for label in labels {
+            self.keep(alloc, row, label)?;
         }
         Ok(())
     }
 }
 
-/// Leaves an equation for each column.
+/// Leaves an equation for each label.
 fn put_off_all(
     alloc: Global,
-    columns: &[Column],
     work: &mut Vec<Pair>,
-    a: &RowTy,
-    b: &RowTy,
+    labels: &[Text],
+    a: RowTy,
+    b: RowTy,
 ) -> Result<(), Memory>
-    ensures { OnOk result ((s : Solution) → Hold s work.new.items ↔ (Hold s work.old.items × SameAt (ground_row s (row_term a.now)) (ground_row s (row_term b.now)) columns.now)) }
+    requires { AreDistinct labels.now }
+    ensures { OnOk result ((s : Solution) → Hold s work.new.items ↔ (Hold s work.old.items × SameAt (ground_row s (row_term a)) (ground_row s (row_term b)) labels.now)) }
 {
-    for column in columns {
-        let left = pick(alloc, a, &column.label)?;
-        let right = pick(alloc, b, &column.label)?;
-        put_off(work, left, right)?;
+    let mut left = Entries::of(a);
+    let mut right = Entries::of(b);
+    for label in labels {
+        let first = left.take(alloc, label)?;
+        let second = right.take(alloc, label)?;
+        put_off(work, first, second)?;
     }
     Ok(())
 }

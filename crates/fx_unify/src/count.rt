@@ -1,88 +1,163 @@
 //! How many nodes a type has at least, under what is bound. Each call has room for so many nodes,
 //! and Clash says that no solution needs so few: so a type that stands inside itself is refused
-//! too.
+//! too. What was counted of a type variable is kept, so each is counted once.
 
-ghost use Rattle.std.specs.Prelude.{◌≡◌, ◌≤◌, ◌++◌, None, Some, map, option_map, slice_index_or};
+ghost use Rattle.std.specs.Prelude.{◌≡◌, None, map, option_map};
 ghost use Rattle.fx_types.specs.Ground.{g_is};
-ghost use Rattle.fx_types.specs.Instance.{ground, ground_labels, ground_pipe, ground_field};
-ghost use Rattle.fx_types.specs.Shape.{term, fun_term, row_term, field_term, label_term, labels_of, pipe_of};
-ghost use Rattle.fx_types.specs.Size.{Pipes, Takes, Weighs};
+ghost use Rattle.fx_types.specs.Instance.{ground, ground_labels, ground_pipe};
+ghost use Rattle.fx_types.specs.Shape.{term, fun_term, label_term, labels_of, pipe_of};
+ghost use Rattle.fx_types.specs.Size.{Pipes, Takes};
 ghost use Rattle.fx_types.specs.Term.{fun};
-ghost use Rattle.fx_unify.specs.Measure.{least, Admits, Measuring, RowMeasuring};
-ghost use Rattle.fx_unify.specs.Part.{part, value, slot_node};
-ghost use Rattle.fx_unify.specs.Rows.{ground_row};
-ghost use Rattle.fx_unify.specs.Store.{entry};
-ghost use Rattle.fx_unify.specs.Sums.{Summing, Summed, row_names, row_rest, required_names};
-ghost use Rattle.fx_types.specs.declared.term.Rest.TheVariants as rests;
+ghost use Rattle.fx_unify.specs.Counted.{Counted};
+ghost use Rattle.fx_unify.specs.Measure.{least, Admits, Measuring};
+ghost use Rattle.fx_unify.specs.Part.{value};
+ghost use Rattle.fx_unify.specs.Sums.{Summing, required_names};
+ghost use Rattle.fx_unify.specs.View.{part_seen};
 
+use crate::counts::Counts;
 use crate::fault::UnifyFault;
-use crate::field::Field;
-use crate::head::is_light_type;
-use crate::labels::{has_column, has_label, is_nothing, is_required};
-use crate::lookup::slot_at;
+use crate::head::type_bound;
+use crate::labels::is_required;
 use crate::sorts::Sorts;
-use crate::store::{Column, Root, Store};
+use crate::store::Store;
+use crate::view::View;
 use fx_base::List;
-use fx_types::{FieldTy, FunTy, LabelTy, Rest, RowTy, Ty};
-use std::alloc::Global;
+use fx_types::{FunTy, LabelTy, Ty};
 
 impl Store {
     #[cycle(count)]
     pub(crate) fn count(
         &self,
-        alloc: Global,
         sorts: &[Sorts],
+        counts: &mut Counts,
         ty: &Ty,
         room: u64,
     ) -> Result<u64, UnifyFault>
-        ensures { Measuring result (least self.now sorts.now) (Admits self.now sorts.now) Pipes (λ s. g_is (ground s (term ty.now))) room }
+        requires { Counted self.now sorts.now counts.old }
+        ensures counts { Counted self.now sorts.now counts.new }
+        ensures nodes { Measuring result (least self.now sorts.now) (Admits self.now sorts.now) Pipes (λ s. g_is (ground s (term ty.now))) room }
     {
+        if let Some(nodes) = self.kept_type(counts, ty) {
+            self.keep_type(counts, ty, nodes);
+            if room < nodes {
+                return Err(UnifyFault::Clash);
+            }
+            return Ok(nodes);
+        }
         if room == 0 {
             return Err(UnifyFault::Clash);
         }
         match self.head(ty)? {
-            Ty::Array(element) => match self.count(alloc, sorts, element.get(), room - 1) {
-                Ok(nodes) => Ok(nodes + 1),
+            Ty::Array(element) => match self.count(sorts, counts, element.get(), room - 1) {
+                Ok(nodes) => {
+                    self.keep_type(counts, ty, nodes + 1);
+                    Ok(nodes + 1)
+                }
                 Err(fault) => Err(fault),
             },
-            Ty::Fun(function) => self.count_function(alloc, sorts, function.get(), room),
-            Ty::Rec(row) => match self.count_row(alloc, sorts, row.get(), room - 1) {
-                Ok(nodes) => Ok(nodes + 1),
+            Ty::Fun(function) => match self.count_function(sorts, counts, function.get(), room) {
+                Ok(nodes) => {
+                    self.keep_type(counts, ty, nodes);
+                    Ok(nodes)
+                }
+                Err(fault) => Err(fault),
+            },
+            Ty::Rec(row) => match self.count_row(sorts, counts, row.get(), room - 1) {
+                Ok(nodes) => {
+                    self.keep_type(counts, ty, nodes + 1);
+                    Ok(nodes + 1)
+                }
                 Err(fault) => Err(fault),
             },
             // a stream has nothing but columns
-            Ty::Stream(row) => match self.count_row(alloc, sorts, row.get(), 0) {
-                Ok(_) => Ok(1),
+            Ty::Stream(row) => match self.count_row(sorts, counts, row.get(), 0) {
+                Ok(_) => {
+                    self.keep_type(counts, ty, 1);
+                    Ok(1)
+                }
                 Err(fault) => Err(fault),
             },
             _ => Ok(1),
         }
     }
 
+    /// What is kept of the variable, or else what is counted and then kept.
+    pub(crate) fn count_variable(
+        &self,
+        sorts: &[Sorts],
+        counts: &mut Counts,
+        variable: usize,
+        room: u64,
+    ) -> Result<u64, UnifyFault>
+        requires { Counted self.now sorts.now counts.old }
+        ensures counts { Counted self.now sorts.now counts.new }
+        ensures nodes { Measuring result (least self.now sorts.now) (Admits self.now sorts.now) Pipes (λ s. g_is (s.type_of variable)) room }
+    {
+        if let Some(nodes) = self.kept_nodes(counts, variable) {
+            self.keep_nodes(counts, variable, nodes);
+            if room < nodes {
+                return Err(UnifyFault::Clash);
+            }
+            return Ok(nodes);
+        }
+        match self.count_bound(sorts, counts, variable, room) {
+            Ok(nodes) => {
+                self.keep_nodes(counts, variable, nodes);
+                Ok(nodes)
+            }
+            Err(fault) => Err(fault),
+        }
+    }
+
+    /// What the variable is bound to, and one node where it is free.
+    fn count_bound(
+        &self,
+        sorts: &[Sorts],
+        counts: &mut Counts,
+        variable: usize,
+        room: u64,
+    ) -> Result<u64, UnifyFault>
+        requires { Counted self.now sorts.now counts.old }
+        ensures counts { Counted self.now sorts.now counts.new }
+        ensures nodes { Measuring result (least self.now sorts.now) (Admits self.now sorts.now) Pipes (λ s. g_is (s.type_of variable)) room }
+    {
+        match type_bound(self.types.as_slice(), variable) {
+            Some(ty) => self.count(sorts, counts, ty, room),
+            None => {
+                if room == 0 {
+                    return Err(UnifyFault::Clash);
+                }
+                Ok(1)
+            }
+        }
+    }
+
     #[cycle(count)]
     fn count_function(
         &self,
-        alloc: Global,
         sorts: &[Sorts],
+        counts: &mut Counts,
         function: &FunTy,
         room: u64,
     ) -> Result<u64, UnifyFault>
-        ensures { Measuring result (least self.now sorts.now) (Admits self.now sorts.now) Pipes
+        requires { Counted self.now sorts.now counts.old }
+        ensures counts { Counted self.now sorts.now counts.new }
+        ensures nodes { Measuring result (least self.now sorts.now) (Admits self.now sorts.now) Pipes
             (λ s. g_is (ground s (fun (fun_term function.now).required (fun_term function.now).pipe (fun_term function.now).result))) room }
     {
         if room == 0 {
             return Err(UnifyFault::Clash);
         }
         let room = room - 1;
-        let labels = match self.count_required(alloc, sorts, &function.required, room) {
+        let labels = match self.count_required(sorts, counts, &function.required, room) {
             Ok(nodes) => nodes,
             Err(fault) => return Err(fault),
         };
-        let pipe = match self.count_pipe(alloc, sorts, &function.pipe, room - labels) {
+        let pipe = match self.count_pipe(sorts, counts, &function.pipe, room - labels) {
             Ok(nodes) => nodes,
             Err(fault) => return Err(fault),
         };
-        match self.count(alloc, sorts, &function.result, room - labels - pipe) {
+        match self.count(sorts, counts, &function.result, room - labels - pipe) {
             Ok(nodes) => Ok(labels + pipe + nodes + 1),
             Err(fault) => Err(fault),
         }
@@ -91,12 +166,14 @@ impl Store {
     #[cycle(count)]
     fn count_required(
         &self,
-        alloc: Global,
         sorts: &[Sorts],
+        counts: &mut Counts,
         labels: &List<LabelTy>,
         room: u64,
     ) -> Result<u64, UnifyFault>
-        ensures { Summing result (least self.now sorts.now) (Admits self.now sorts.now) Takes (λ s. ground_labels s (labels_of (map label_term labels.now))) (required_names labels.now) room }
+        requires { Counted self.now sorts.now counts.old }
+        ensures counts { Counted self.now sorts.now counts.new }
+        ensures nodes { Summing result (least self.now sorts.now) (Admits self.now sorts.now) Takes (λ s. ground_labels s (labels_of (map label_term labels.now))) (required_names labels.now) room }
     {
         let entries = labels.as_slice();
         let mut sum: u64 = 0;
@@ -107,7 +184,7 @@ impl Store {
             if sum == room {
                 return Err(UnifyFault::Clash);
             }
-            match self.count(alloc, sorts, &entry.ty, room - sum - 1) {
+            match self.count(sorts, counts, &entry.ty, room - sum - 1) {
                 Ok(nodes) => sum += nodes + 1,
                 Err(fault) => return Err(fault),
             }
@@ -118,203 +195,37 @@ impl Store {
     #[cycle(count)]
     fn count_pipe(
         &self,
-        alloc: Global,
         sorts: &[Sorts],
+        counts: &mut Counts,
         pipe: &Option<Ty>,
         room: u64,
     ) -> Result<u64, UnifyFault>
-        ensures { Measuring result (least self.now sorts.now) (Admits self.now sorts.now) Pipes (λ s. ground_pipe s (pipe_of (option_map term pipe.now))) room }
+        requires { Counted self.now sorts.now counts.old }
+        ensures counts { Counted self.now sorts.now counts.new }
+        ensures nodes { Measuring result (least self.now sorts.now) (Admits self.now sorts.now) Pipes (λ s. ground_pipe s (pipe_of (option_map term pipe.now))) room }
     {
         match pipe {
-            Some(ty) => self.count(alloc, sorts, ty, room),
+            Some(ty) => self.count(sorts, counts, ty, room),
             None => Ok(0),
-        }
-    }
-
-    /// What the fields of a row count together.
-    #[cycle(count)]
-    fn count_row(
-        &self,
-        alloc: Global,
-        sorts: &[Sorts],
-        row: &RowTy,
-        room: u64,
-    ) -> Result<u64, UnifyFault>
-        ensures { RowMeasuring result (least self.now sorts.now) (Admits self.now sorts.now) (λ s. ground_row s (row_term row.now)) room }
-    {
-        let listed = match self.count_fields(alloc, sorts, row, room) {
-            Ok(nodes) => nodes,
-            Err(fault) => return Err(fault),
-        };
-        match &row.rest {
-            Rest::Default(field) => match self.weigh_field(alloc, sorts, field, 0) {
-                Ok(_) => Ok(listed),
-                Err(fault) => Err(fault),
-            },
-            Rest::Var(number) => self.count_open(alloc, sorts, row, *number, listed, room),
-        }
-    }
-
-    #[cycle(count)]
-    fn count_fields(
-        &self,
-        alloc: Global,
-        sorts: &[Sorts],
-        row: &RowTy,
-        room: u64,
-    ) -> Result<u64, UnifyFault>
-        ensures { Summing result (least self.now sorts.now) (Admits self.now sorts.now) Weighs (λ s. ground_row s (row_term row.now)) (row_names row.now) room }
-    {
-        let entries = row.fields.as_slice();
-        let mut sum: u64 = 0;
-        for (i, entry) in entries.iter().enumerate() {
-            let weight = self.weigh_field(alloc, sorts, &entry.field, room - sum);
-            // most fields count nothing, and their labels needn't be looked for
-            if is_nothing(&weight) {
-                continue;
-            }
-            if has_label(&entries[..i], &entry.label) {
-                continue;
-            }
-            match weight {
-                Ok(nodes) => sum += nodes,
-                Err(fault) => return Err(fault),
-            }
-        }
-        Ok(sum)
-    }
-
-    /// Adds what the row of the variable has at the labels that the row doesn't list.
-    #[cycle(count)]
-    fn count_open(
-        &self,
-        alloc: Global,
-        sorts: &[Sorts],
-        row: &RowTy,
-        number: u32,
-        listed: u64,
-        room: u64,
-    ) -> Result<u64, UnifyFault>
-        requires open { row_rest row.now ≡ rests.Var number }
-        requires listed { Summed (least self.now sorts.now) (Admits self.now sorts.now) Weighs (λ s. ground_row s (row_term row.now)) (row_names row.now) listed × (listed ≤ room) }
-        ensures { RowMeasuring result (least self.now sorts.now) (Admits self.now sorts.now) (λ s. ground_row s (row_term row.now)) room }
-    {
-        let columns = self.columns.as_slice();
-        let mut sum = listed;
-        for (i, column) in columns.iter().enumerate() {
-            let weight = self.weigh_column(alloc, sorts, column, number, room - sum);
-            if is_nothing(&weight) {
-                continue;
-            }
-            if has_label(row.fields.as_slice(), &column.label) {
-                continue;
-            }
-            if has_column(&columns[..i], &column.label) {
-                continue;
-            }
-            match weight {
-                Ok(nodes) => sum += nodes,
-                Err(fault) => return Err(fault),
-            }
-        }
-        match self.root(alloc, &row.rest)? {
-            Root::Var(_) => Ok(sum),
-            Root::Default(field) => match self.weigh_field(alloc, sorts, &field, 0) {
-                Ok(_) => Ok(sum),
-                Err(fault) => Err(fault),
-            },
-        }
-    }
-
-    #[cycle(count)]
-    fn weigh_column(
-        &self,
-        alloc: Global,
-        sorts: &[Sorts],
-        column: &Column,
-        number: u32,
-        room: u64,
-    ) -> Result<u64, UnifyFault>
-        ensures { entry self.now (slot_node number column.now.label) ≡ option_map part (slice_index_or column.now.slots.items number None)
-            → Measuring result (least self.now sorts.now) (Admits self.now sorts.now) Weighs (λ s. s.row_of number column.now.label) room }
-    {
-        match slot_at(column.slots.as_slice(), number) {
-            Some(field) => self.weigh_part(alloc, sorts, field, room),
-            None => Ok(0),
-        }
-    }
-
-    #[cycle(count)]
-    pub(crate) fn weigh_field(
-        &self,
-        alloc: Global,
-        sorts: &[Sorts],
-        field: &FieldTy,
-        room: u64,
-    ) -> Result<u64, UnifyFault>
-        ensures { Measuring result (least self.now sorts.now) (Admits self.now sorts.now) Weighs (λ s. ground_field s (field_term field.now)) room }
-    {
-        match field {
-            FieldTy::Absent => Ok(0),
-            FieldTy::Is(ty) => self.weigh_type(alloc, sorts, ty, room),
-            FieldTy::Var(number) => self.weigh_part(alloc, sorts, &Field::Var(*number), room),
-        }
-    }
-
-    #[cycle(count)]
-    fn weigh_part(
-        &self,
-        alloc: Global,
-        sorts: &[Sorts],
-        field: &Field,
-        room: u64,
-    ) -> Result<u64, UnifyFault>
-        ensures { Measuring result (least self.now sorts.now) (Admits self.now sorts.now) Weighs (λ s. value s (part field.now)) room }
-    {
-        let found = self.resolve(alloc, field.copy(alloc)?)?;
-        match &found {
-            Field::Is(ty) => self.weigh_type(alloc, sorts, ty, room),
-            _ => Ok(0),
         }
     }
 
     /// The nodes of the type that the field is, if it is one.
-    pub(crate) fn count_part(
+    pub(crate) fn count_view(
         &self,
-        alloc: Global,
         sorts: &[Sorts],
-        field: &Field,
+        counts: &mut Counts,
+        view: View,
         room: u64,
     ) -> Result<u64, UnifyFault>
-        ensures { Measuring result (least self.now sorts.now) (Admits self.now sorts.now) Pipes (λ s. value s (part field.now)) room }
+        requires { Counted self.now sorts.now counts.old }
+        ensures counts { Counted self.now sorts.now counts.new }
+        ensures nodes { Measuring result (least self.now sorts.now) (Admits self.now sorts.now) Pipes (λ s. value s (part_seen view.entry)) room }
     {
-        let found = self.resolve(alloc, field.copy(alloc)?)?;
-        match &found {
-            Field::Is(ty) => self.count(alloc, sorts, ty, room),
+        let found = self.seen_field(view)?;
+        match found {
+            View::Is(ty) => self.count(sorts, counts, ty, room),
             _ => Ok(0),
-        }
-    }
-
-    #[cycle(count)]
-    fn weigh_type(
-        &self,
-        alloc: Global,
-        sorts: &[Sorts],
-        ty: &Ty,
-        room: u64,
-    ) -> Result<u64, UnifyFault>
-        ensures { Measuring result (least self.now sorts.now) (Admits self.now sorts.now) Weighs (λ s. g_is (ground s (term ty.now))) room }
-    {
-        let head = self.head(ty)?;
-        if is_light_type(sorts, head) {
-            return Ok(0);
-        }
-        if room == 0 {
-            return Err(UnifyFault::Clash);
-        }
-        match self.count(alloc, sorts, head, room - 1) {
-            Ok(nodes) => Ok(nodes + 1),
-            Err(fault) => Err(fault),
         }
     }
 }

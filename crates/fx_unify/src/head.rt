@@ -32,22 +32,22 @@ impl Store {
     }
 
     /// What the type variable that the type is is bound to.
-    fn after_type<'a>(&'a self, ty: &Ty) -> Option<&'a Ty>
+    pub(crate) fn after_type<'a>(&'a self, ty: &Ty) -> Option<&'a Ty>
         ensures { MatchOption result (bound_to (entry self.now) (p_is (term ty.now)) ≡ None) (λ t. bound_to (entry self.now) (p_is (term ty.now)) ≡ Some (p_is (term t.now))) }
     {
         match ty {
-            Ty::Var(number) => type_bound(self.types.as_slice(), *number),
+            Ty::Var(number) => type_bound(self.types.as_slice(), *number as usize),
             _ => None,
         }
     }
 }
 
-fn type_bound(items: &[Option<Ty>], number: u32) -> Option<&Ty>
-    ensures { MatchOption result (slice_index_or items.now number None ≡ None) (λ t. slice_index_or items.now number None ≡ Some t.now) }
+/// What the variable is bound to.
+pub(crate) fn type_bound(items: &[Option<Ty>], variable: usize) -> Option<&Ty>
+    ensures { MatchOption result (slice_index_or items.now variable None ≡ None) (λ t. slice_index_or items.now variable None ≡ Some t.now) }
 {
-    let at = number as usize;
-    if at < items.len() {
-        return items[at].as_ref();
+    if variable < items.len() {
+        return items[variable].as_ref();
     }
     None
 }

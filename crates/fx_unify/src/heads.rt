@@ -96,11 +96,12 @@ impl Store {
             pipe: other_pipe,
             result: other,
         } = right;
-        let a = labels_row(alloc, &required)?;
-        let b = labels_row(alloc, &others)?;
+        let a = labels_row(alloc, required)?;
+        let b = labels_row(alloc, others)?;
         put_off(&mut self.work, piped(pipe), piped(other_pipe))?;
         put_off(&mut self.work, Field::Is(result), Field::Is(other))?;
-        self.compare(alloc, &a, &b)
+        self.compare(alloc, a, b)?;
+        Ok(())
     }
 
     fn solve_records(&mut self, alloc: Global, row: RowTy, other: Ty) -> Result<(), UnifyFault>
@@ -108,7 +109,10 @@ impl Store {
         ensures { Solving result self.old self.new (λ s. ground s (rec (row_term row).fields (row_term row).rest) ≡ ground s (term other)) }
     {
         match other {
-            Ty::Rec(right) => self.compare(alloc, &row, right.get()),
+            Ty::Rec(right) => {
+                self.compare(alloc, row, right.into_inner())?;
+                Ok(())
+            }
             _ => Err(UnifyFault::Clash),
         }
     }
@@ -118,7 +122,10 @@ impl Store {
         ensures { Solving result self.old self.new (λ s. ground s (stream (row_term row).fields (row_term row).rest) ≡ ground s (term other)) }
     {
         match other {
-            Ty::Stream(right) => self.compare(alloc, &row, right.get()),
+            Ty::Stream(right) => {
+                self.compare(alloc, row, right.into_inner())?;
+                Ok(())
+            }
             _ => Err(UnifyFault::Clash),
         }
     }

@@ -1,13 +1,16 @@
-//! Whether a label stands before.
+//! Whether a label stands before, and lists of labels.
 
-ghost use Rattle.std.specs.Prelude.{◌≡◌, IsTrue, Ok};
+ghost use Rattle.std.specs.Prelude.{◌≡◌, true, IsTrue, Ok, OnOk, map};
 ghost use Rattle.fx_types.specs.Ground.{listed};
-ghost use Rattle.fx_unify.specs.Store.{known};
+ghost use Rattle.fx_types.specs.Size.{AreDistinct};
+ghost use Rattle.fx_types.specs.Term.{Label};
+ghost use Rattle.fx_unify.specs.Rows.{Grows};
+ghost use Rattle.fx_unify.specs.Store.{slot_names};
 ghost use Rattle.fx_unify.specs.Sums.{names, required_names};
 
 use crate::fault::UnifyFault;
-use crate::store::Column;
-use fx_base::Text;
+use crate::store::Slot;
+use fx_base::{Memory, Text};
 use fx_types::{LabelField, LabelTy};
 
 /// Whether one of the entries has this label.
@@ -34,16 +37,61 @@ pub(crate) fn is_required(label: &Text, entries: &[LabelTy]) -> bool
     false
 }
 
-/// Whether one of the columns has this label.
-pub(crate) fn has_column(columns: &[Column], label: &Text) -> bool
-    ensures { result ≡ known label.now columns.now }
+/// Whether the label is one of these.
+pub(crate) fn has_text(labels: &[Text], label: &Text) -> bool
+    ensures { result ≡ listed label.now labels.now }
 {
-    for column in columns {
-        if *label == column.label {
+    for other in labels {
+        if *label == *other {
             return true;
         }
     }
     false
+}
+
+/// Adds the label where it isn't there.
+pub(crate) fn add_label(labels: &mut Vec<Text>, label: &Text) -> Result<(), Memory>
+    ensures there { OnOk result (listed label.now labels.new.items ≡ true) }
+    ensures grows { OnOk result (Grows labels.old.items labels.new.items) }
+{
+    if has_text(labels.as_slice(), label) {
+        return Ok(());
+    }
+    labels.push(label.copy()?)?;
+    Ok(())
+}
+
+/// Adds the labels of the entries.
+pub(crate) fn add_names(labels: &mut Vec<Text>, entries: &[LabelField]) -> Result<(), Memory>
+    ensures there { OnOk result ((l : Label) → listed l (names entries.now) ≡ true → listed l labels.new.items ≡ true) }
+    ensures grows { OnOk result (Grows labels.old.items labels.new.items) }
+{
+    for entry in entries {
+        add_label(labels, &entry.label)?;
+    }
+    Ok(())
+}
+
+/// Adds the labels of the slots.
+pub(crate) fn add_slots(labels: &mut Vec<Text>, slots: &[Slot]) -> Result<(), Memory>
+    ensures there { OnOk result ((l : Label) → listed l (slot_names slots.now) ≡ true → listed l labels.new.items ≡ true) }
+    ensures grows { OnOk result (Grows labels.old.items labels.new.items) }
+{
+    for slot in slots {
+        add_label(labels, &slot.label)?;
+    }
+    Ok(())
+}
+
+/// Adds labels.
+pub(crate) fn add_texts(labels: &mut Vec<Text>, others: &[Text]) -> Result<(), Memory>
+    ensures there { OnOk result ((l : Label) → listed l others.now ≡ true → listed l labels.new.items ≡ true) }
+    ensures grows { OnOk result (Grows labels.old.items labels.new.items) }
+{
+    for label in others {
+        add_label(labels, label)?;
+    }
+    Ok(())
 }
 
 /// Whether the answer is that nothing is counted.

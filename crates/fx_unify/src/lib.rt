@@ -2,30 +2,36 @@
 #![tactic(auto)]
 
 mod apply;
+mod bind;
 mod bindings;
 mod bounds;
 mod compare;
 mod count;
+mod counts;
 mod decide;
 mod fault;
 mod field;
 mod head;
 mod heads;
-mod join;
-mod known;
+mod kept;
 mod labels;
+mod light;
 mod lookup;
 mod numbers;
 mod pick;
 mod put;
 mod resolve;
+mod row;
 mod run;
 mod solve;
 mod sorts;
 mod store;
 mod tag;
+mod tails;
 #[cfg(test)]
 mod tests;
+mod view;
+mod weigh;
 mod work;
 
 pub use bindings::{Bindings, unify};

@@ -2,10 +2,12 @@
 
 ghost use Rattle.std.specs.Prelude.{◌≡◌, IfOk, MatchOption, None, Some, option_map, slice_index_or};
 ghost use Rattle.fx_types.specs.Shape.{term};
-ghost use Rattle.fx_unify.specs.Part.{part, p_is};
-ghost use Rattle.fx_unify.specs.Store.{entry, root_at, slot_in, bound_to};
+ghost use Rattle.fx_unify.specs.Part.{part, p_is, slot_node};
+ghost use Rattle.fx_unify.specs.Store.{entry, root_at, rest_in, apart_of, rest_of, bound_to};
 
 use crate::field::Field;
+use crate::labels::has_text;
+use crate::row::find_slot;
 use crate::store::{Root, Store};
 use fx_base::{Memory, Text};
 use fx_types::Ty;
@@ -34,12 +36,20 @@ impl Store {
     }
 
     fn slot(&self, alloc: Global, row: u32, label: &Text) -> Result<Option<Field>, Memory>
-        ensures { IfOk result (λ o. option_map part o ≡ slot_in self.now.columns.items self.now.rests.items row label.now) }
+        ensures { IfOk result (λ o. option_map part o ≡ entry self.now (slot_node row label.now)) }
     {
-        for column in self.columns.as_slice() {
-            if *label == column.label {
-                return field_at(alloc, column.slots.as_slice(), row);
-            }
+        match find_slot(self.slots_of(row), label) {
+            Some(field) => Ok(Some(field.copy(alloc)?)),
+            None => self.by_rest(alloc, row, label),
+        }
+    }
+
+    /// What the row variable has at the label by its rest.
+    fn by_rest(&self, alloc: Global, row: u32, label: &Text) -> Result<Option<Field>, Memory>
+        ensures { IfOk result (λ o. option_map part o ≡ rest_in (apart_of self.now row) (rest_of self.now row) label.now) }
+    {
+        if has_text(self.apart_of(row), label) {
+            return Ok(None);
         }
         root_field_at(alloc, self.rests.as_slice(), row, label)
     }
@@ -109,12 +119,7 @@ fn root_field_at(
     Ok(None)
 }
 
-/// The field at a label without a column.
-pub(crate) fn root_field(
-    alloc: Global,
-    root: &Option<Root>,
-    label: &Text,
-) -> Result<Option<Field>, Memory>
+fn root_field(alloc: Global, root: &Option<Root>, label: &Text) -> Result<Option<Field>, Memory>
     ensures { IfOk result (λ o. option_map part o ≡ option_map (root_at label.now) root.now) }
 {
     match root {

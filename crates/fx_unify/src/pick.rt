@@ -1,25 +1,61 @@
-ghost use Rattle.std.specs.Prelude.{◌≡◌, IfOk, map};
-ghost use Rattle.fx_types.specs.Instance.{Solution, ground_labels, ground_tail, ground_fields};
-ghost use Rattle.fx_types.specs.Shape.{row_term, rest_term, entry_term, label_term, labels_of, fields_of};
+ghost use Rattle.std.specs.Prelude.{◌≡◌, false, IfOk, OnOk, MatchOption, map};
+ghost use Rattle.fx_base.specs.Text.{same_text};
+ghost use Rattle.fx_types.specs.Ground.{listed};
+ghost use Rattle.fx_types.specs.Instance.{Solution, ground_labels, ground_tail};
+ghost use Rattle.fx_types.specs.Shape.{row_term, rest_term, entry_term, label_term, labels_of};
 ghost use Rattle.fx_types.specs.Term.{Label};
 ghost use Rattle.fx_unify.specs.Part.{part, value};
-ghost use Rattle.fx_unify.specs.Rows.{ground_row, as_field};
+ghost use Rattle.fx_unify.specs.Pick.{IsFirst};
+ghost use Rattle.fx_unify.specs.Rows.{ground_row, ground_entries, as_field};
+ghost use Rattle.fx_unify.specs.Sums.{names};
 
 use crate::field::Field;
 use fx_base::{List, Memory, Text};
 use fx_types::{FieldTy, LabelField, LabelTy, Rest, RowTy};
 use std::alloc::Global;
+use std::mem;
 
-/// What the row has at the label.
-pub(crate) fn pick(alloc: Global, row: &RowTy, label: &Text) -> Result<Field, Memory>
-    ensures { IfOk result (λ f. (s : Solution) → value s (part f) ≡ ground_row s (row_term row.now) label.now) }
-{
-    for entry in row.fields.as_slice() {
-        if *label == entry.label {
-            return Field::of(alloc, &entry.field);
+/// A row whose fields are taken out, one after the other.
+#[derive(Debug, Drop)]
+pub(crate) struct Entries {
+    fields: Vec<LabelField>,
+    rest: Rest,
+}
+
+impl Entries {
+    pub(crate) fn of(row: RowTy) -> Entries
+        ensures { (s : Solution) (l : Label) → ground_entries s result l ≡ ground_row s (row_term row) l }
+    {
+        let RowTy { fields, rest } = row;
+        let fields = fields.into_vec();
+        Entries { fields, rest }
+    }
+
+    /// What the row has at the label. It keeps what it has at all others.
+    pub(crate) fn take(&mut self, alloc: Global, label: &Text) -> Result<Field, Memory>
+        ensures field { IfOk result (λ f. (s : Solution) → value s (part f) ≡ ground_entries s self.old label.now) }
+        ensures others { (s : Solution) (l : Label) → same_text l label.now ≡ false → ground_entries s self.new l ≡ ground_entries s self.old l }
+    {
+        match find_label(self.fields.as_slice(), label) {
+            Some(at) => Ok(Field::from_term(mem::replace(
+                &mut self.fields[at].field,
+                FieldTy::Absent,
+            ))),
+            None => pick_rest(alloc, &self.rest, label),
         }
     }
-    pick_rest(alloc, &row.rest, label)
+}
+
+/// The place of the first entry with the label.
+fn find_label(entries: &[LabelField], label: &Text) -> Option<usize>
+    ensures { MatchOption result (listed label.now (names entries.now) ≡ false) (λ i. IsFirst label.now (names entries.now) i) }
+{
+    for (i, entry) in entries.iter().enumerate() {
+        if *label == entry.label {
+            return Some(i);
+        }
+    }
+    None
 }
 
 fn pick_rest(alloc: Global, rest: &Rest, label: &Text) -> Result<Field, Memory>
@@ -32,8 +68,8 @@ fn pick_rest(alloc: Global, rest: &Rest, label: &Text) -> Result<Field, Memory>
 }
 
 /// The row of a function's labels: each required label has its type, all others are Absent.
-pub(crate) fn labels_row(alloc: Global, labels: &List<LabelTy>) -> Result<RowTy, Memory>
-    ensures { IfOk result (λ r. (s : Solution) (l : Label) → ground_row s (row_term r) l ≡ ground_labels s (labels_of (map label_term labels.now)) l) }
+pub(crate) fn labels_row(alloc: Global, labels: List<LabelTy>) -> Result<RowTy, Memory>
+    ensures { IfOk result (λ r. (s : Solution) (l : Label) → ground_row s (row_term r) l ≡ ground_labels s (labels_of (map label_term labels)) l) }
 {
     Ok(RowTy {
         fields: label_fields(alloc, labels)?,
@@ -41,15 +77,13 @@ pub(crate) fn labels_row(alloc: Global, labels: &List<LabelTy>) -> Result<RowTy,
     })
 }
 
-fn label_fields(alloc: Global, labels: &List<LabelTy>) -> Result<List<LabelField>, Memory>
-    ensures { IfOk result (λ fs. map entry_term fs ≡ map as_field labels.now) }
+fn label_fields(alloc: Global, labels: List<LabelTy>) -> Result<List<LabelField>, Memory>
+    ensures { IfOk result (λ fs. map entry_term fs ≡ map as_field labels) }
 {
     let mut fields = List::empty(alloc);
-    for entry in labels.as_slice() {
-        fields.push(LabelField {
-            label: entry.label.copy()?,
-            field: FieldTy::Is(entry.ty.copy(alloc)?),
-        })?;
+    for LabelTy { label, ty } in labels.into_vec() {
+        let field = FieldTy::Is(ty);
+        fields.push(LabelField { label, field })?;
     }
     Ok(fields)
 }

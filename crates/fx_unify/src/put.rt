@@ -1,6 +1,7 @@
-ghost use Rattle.std.specs.Prelude.{◌≡◌, ℕ, ◌==◌, OnOk, Some, None, slice_index_or, if◌then◌else◌};
+ghost use Rattle.std.specs.Prelude.{◌≡◌, ℕ, ◌==◌, ◌++◌, OnOk, Some, None, [], ◌∷◌, slice_index_or, if◌then◌else◌};
 
-use fx_base::Memory;
+use fx_base::{List, Memory};
+use std::alloc::Global;
 
 /// Sets the item of this number; the ones before it that aren't there are none.
 pub(crate) fn put<T: Drop>(items: &mut Vec<Option<T>>, number: u32, value: T) -> Result<(), Memory>
@@ -12,4 +13,20 @@ pub(crate) fn put<T: Drop>(items: &mut Vec<Option<T>>, number: u32, value: T) ->
     }
     items[at] = Some(value);
     Ok(())
+}
+
+/// Adds an item to the list of this number; the ones before it that aren't there are empty.
+pub(crate) fn add<T: Drop>(
+    alloc: Global,
+    lists: &mut Vec<List<T>>,
+    number: u32,
+    value: T,
+) -> Result<(), Memory>
+    ensures { OnOk result ((n : ℕ) → slice_index_or lists.new.items n [] ≡ (if n == number then slice_index_or lists.old.items number [] ++ value ∷ [] else slice_index_or lists.old.items n [])) }
+{
+    let at = number as usize;
+    while lists.len() <= at {
+        lists.push(List::empty(alloc))?;
+    }
+    lists[at].push(value)
 }

@@ -1,15 +1,17 @@
-ghost use Rattle.std.specs.Prelude.{◌≡◌, IfOk, None, slice_index_or};
+ghost use Rattle.std.specs.Prelude.{◌≡◌, false, IfOk, OnOk};
+ghost use Rattle.fx_types.specs.Ground.{listed};
 ghost use Rattle.fx_types.specs.Instance.{Solution, ground_tail};
 ghost use Rattle.fx_types.specs.Shape.{rest_term};
 ghost use Rattle.fx_types.specs.Term.{Label};
-ghost use Rattle.std.specs.Prelude.{false};
 ghost use Rattle.fx_unify.specs.Least.{Leads, RestLeads, RowLeads};
 ghost use Rattle.fx_unify.specs.Part.{part, value, Solved};
-ghost use Rattle.fx_unify.specs.Store.{entry, bound_to, root_at, known, IsFree};
+ghost use Rattle.fx_unify.specs.Rows.{Grows};
+ghost use Rattle.fx_unify.specs.Store.{entry, bound_to, root_at, AreKept, KeepsRoot, IsFree};
 
 use crate::field::Field;
+use crate::labels::{add_slots, add_texts};
 use crate::store::{Root, Store};
-use fx_base::Memory;
+use fx_base::{Memory, Text};
 use fx_types::Rest;
 use std::alloc::Global;
 
@@ -33,54 +35,53 @@ impl Store {
         Err(Memory)
     }
 
-    /// Follows bound row variables up to a default or to a free variable.
-    pub(crate) fn root(&self, alloc: Global, rest: &Rest) -> Result<Root, Memory>
-        ensures same { IfOk result (λ r. (s : Solution) → Solved s (entry self.now) → (l : Label) → known l self.now.columns.items ≡ false
+    /// Follows bound row variables up to a default or to a free variable. The labels at which one
+    /// of them is kept apart from its rest are added to the list; off it, all have the same.
+    pub(crate) fn follow(
+        &self,
+        alloc: Global,
+        rest: &Rest,
+        labels: &mut Vec<Text>,
+    ) -> Result<Root, Memory>
+        ensures same { IfOk result (λ r. (s : Solution) → Solved s (entry self.now) → (l : Label) → listed l labels.new.items ≡ false
             → value s (root_at l r) ≡ ground_tail s (rest_term rest.now) l) }
-        ensures leads { IfOk result (λ r. RestLeads self.now (rest_term rest.now) r) }
-        ensures free { IfOk result (λ r. IsFree self.now.rests.items r) }
+        ensures leads { IfOk result (λ r. RestLeads self.now labels.new.items (rest_term rest.now) r) }
+        ensures free { IfOk result (λ r. IsFree self.now r) }
+        ensures kept { IfOk result (λ r. KeepsRoot self.now r labels.new.items) }
+        ensures grows { OnOk result (Grows labels.old.items labels.new.items) }
     {
         match rest {
             Rest::Default(field) => Ok(Root::Default(field.copy(alloc)?)),
-            Rest::Var(row) => self.root_of(alloc, *row),
+            Rest::Var(row) => self.follow_row(alloc, *row, labels),
         }
     }
 
-    pub(crate) fn root_of(&self, alloc: Global, row: u32) -> Result<Root, Memory>
-        ensures same { IfOk result (λ r. (s : Solution) → Solved s (entry self.now) → (l : Label) → known l self.now.columns.items ≡ false
+    fn follow_row(&self, alloc: Global, row: u32, labels: &mut Vec<Text>) -> Result<Root, Memory>
+        ensures same { IfOk result (λ r. (s : Solution) → Solved s (entry self.now) → (l : Label) → listed l labels.new.items ≡ false
             → value s (root_at l r) ≡ s.row_of row l) }
-        ensures leads { IfOk result (λ r. RowLeads self.now row r) }
-        ensures free { IfOk result (λ r. IsFree self.now.rests.items r) }
+        ensures leads { IfOk result (λ r. RowLeads self.now labels.new.items row r) }
+        ensures free { IfOk result (λ r. IsFree self.now r) }
+        ensures kept { IfOk result (λ r. KeepsRoot self.now r labels.new.items) }
+        ensures grows { OnOk result (Grows labels.old.items labels.new.items) }
     {
         let mut current = row;
         for _step in 0..FUEL {
-            match root_after(alloc, self.rests.as_slice(), current)? {
-                Some(Root::Default(field)) => return Ok(Root::Default(field)),
-                Some(Root::Var(next)) => current = next,
+            self.add_kept(current, labels)?;
+            match self.rest_of(current) {
+                Some(Root::Default(field)) => return Ok(Root::Default(field.copy(alloc)?)),
+                Some(Root::Var(next)) => current = *next,
                 None => return Ok(Root::Var(current)),
             }
         }
         Err(Memory)
     }
-}
 
-/// What the row variable is bound to off the columns.
-fn root_after(alloc: Global, roots: &[Option<Root>], row: u32) -> Result<Option<Root>, Memory>
-    ensures { IfOk result (λ o. o ≡ slice_index_or roots.now row None) }
-{
-    let at = row as usize;
-    if at < roots.len() {
-        return copy_root(alloc, &roots[at]);
-    }
-    Ok(None)
-}
-
-fn copy_root(alloc: Global, root: &Option<Root>) -> Result<Option<Root>, Memory>
-    ensures { IfOk result (λ o. o ≡ root.now) }
-{
-    match root {
-        Some(Root::Default(field)) => Ok(Some(Root::Default(field.copy(alloc)?))),
-        Some(Root::Var(row)) => Ok(Some(Root::Var(*row))),
-        None => Ok(None),
+    /// Adds the labels at which the row variable is kept apart from its rest.
+    pub(crate) fn add_kept(&self, row: u32, labels: &mut Vec<Text>) -> Result<(), Memory>
+        ensures kept { OnOk result (AreKept self.now row labels.new.items) }
+        ensures grows { OnOk result (Grows labels.old.items labels.new.items) }
+    {
+        add_slots(labels, self.slots_of(row))?;
+        add_texts(labels, self.apart_of(row))
     }
 }

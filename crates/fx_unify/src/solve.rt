@@ -42,7 +42,7 @@ impl Store {
             Field::Absent => self.solve_absent(alloc, a),
             Field::Is(ty) => self.solve_type(alloc, a, ty),
             Field::Var(number) => {
-                self.bind_field(number, a)?;
+                self.bind_field(alloc, number, a)?;
                 Ok(())
             }
             Field::Slot(row, label) => {
@@ -60,7 +60,7 @@ impl Store {
             Field::Absent => Ok(()),
             Field::Is(_) => Err(UnifyFault::Clash),
             Field::Var(number) => {
-                self.bind_field(number, Field::Absent)?;
+                self.bind_field(alloc, number, Field::Absent)?;
                 Ok(())
             }
             Field::Slot(row, label) => {
@@ -79,7 +79,7 @@ impl Store {
             Field::Absent => Err(UnifyFault::Clash),
             Field::Is(other) => self.solve_types(alloc, other, ty),
             Field::Var(number) => {
-                self.bind_field(number, Field::Is(ty))?;
+                self.bind_field(alloc, number, Field::Is(ty))?;
                 Ok(())
             }
             Field::Slot(row, label) => {

@@ -2,17 +2,17 @@
 
 use crate::field::Field;
 use crate::work::Pair;
-use fx_base::Text;
+use fx_base::{List, Text};
 use fx_types::{FieldTy, Ty};
 
-/// What the rows of all row variables have at one label, as far as it is known.
+/// What a row variable has at one label.
 #[derive(Debug, Drop)]
-pub(crate) struct Column {
+pub(crate) struct Slot {
     pub(crate) label: Text,
-    pub(crate) slots: Vec<Option<Field>>,
+    pub(crate) field: Field,
 }
 
-/// What a row variable has at the labels without a column.
+/// What a row variable has at all other labels.
 #[derive(Debug, Drop)]
 pub(crate) enum Root {
     Default(FieldTy),
@@ -24,7 +24,10 @@ pub(crate) enum Root {
 pub(crate) struct Store {
     pub(crate) types: Vec<Option<Ty>>,
     pub(crate) fields: Vec<Option<Field>>,
-    pub(crate) columns: Vec<Column>,
+    /// Of each row variable, the labels at which it is bound by itself.
+    pub(crate) slots: Vec<List<Slot>>,
+    /// Of each row variable, labels at which its rest says nothing of it.
+    pub(crate) apart: Vec<List<Text>>,
     pub(crate) rests: Vec<Option<Root>>,
     pub(crate) work: Vec<Pair>,
 }

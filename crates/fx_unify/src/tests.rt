@@ -115,6 +115,21 @@ fn rows_that_hide_a_label_may_differ_there(rt: HostRuntime) -> Result<(), Fail> 
 }
 
 #[test]
+fn rows_that_lead_to_each_other_are_one(rt: HostRuntime) -> Result<(), Fail> {
+    let alloc = rt.alloc();
+    let first = record(alloc, Vec::new(alloc), Rest::Var(0))?;
+    let second = record(alloc, Vec::new(alloc), Rest::Var(1))?;
+    let with_text = record(alloc, vec![in alloc; ("b", Ty::Text)]?, Rest::Var(1))?;
+    let bindings = Bindings::empty(alloc)?;
+    let integer = with_a(alloc, Ty::Int, 0)?;
+    let bindings = made_equal(alloc, bindings, &second, &integer)?.expect(&rt, "an integer more");
+    let bindings = made_equal(alloc, bindings, &first, &with_text)?.expect(&rt, "a text more");
+    let boolean = with_a(alloc, Ty::Bool, 2)?;
+    assert!(rt; made_equal(alloc, bindings, &first, &boolean)?.is_none());
+    Ok(())
+}
+
+#[test]
 fn no_type_stands_inside_itself(rt: HostRuntime) -> Result<(), Fail> {
     let alloc = rt.alloc();
     let inner = array(alloc, Ty::Var(0))?;
@@ -213,6 +228,50 @@ fn types_have_at_most_4096_nodes(rt: HostRuntime) -> Result<(), Fail> {
         outer = array(alloc, outer)?;
     }
     assert!(rt; made_equal(alloc, bindings, &Ty::Var(1), &outer)?.is_none());
+    Ok(())
+}
+
+/// Variables of which each is a record that has the one before twice; the first is an array.
+fn doubled(alloc: Global, levels: u32) -> Result<Option<Bindings>, Memory> {
+    let leaf = array(alloc, Ty::Int)?;
+    let first = made_equal(alloc, Bindings::empty(alloc)?, &Ty::Var(0), &leaf)?;
+    let Some(mut bindings) = first else {
+        return Ok(None);
+    };
+    for n in 0..levels {
+        let both = vec![in alloc; ("a", Ty::Var(n)), ("b", Ty::Var(n))]?;
+        let twice = record(alloc, both, closed())?;
+        match made_equal(alloc, bindings, &Ty::Var(n + 1), &twice)? {
+            Some(more) => bindings = more,
+            None => return Ok(None),
+        }
+    }
+    Ok(Some(bindings))
+}
+
+#[test]
+fn a_variable_counts_wherever_it_stands(rt: HostRuntime) -> Result<(), Fail> {
+    let alloc = rt.alloc();
+    // 2,557 nodes, and 5,117
+    assert!(rt; doubled(alloc, 9)?.is_some());
+    assert!(rt; doubled(alloc, 10)?.is_none());
+    Ok(())
+}
+
+#[test]
+fn variables_that_are_one_count_alike(rt: HostRuntime) -> Result<(), Fail> {
+    let alloc = rt.alloc();
+    let mut bindings = Bindings::empty(alloc)?;
+    for n in 0..9_u32 {
+        bindings = made_equal(alloc, bindings, &Ty::Var(n), &Ty::Var(n + 1))?.expect(
+            &rt,
+            "free variables",
+        );
+    }
+    let most = nested(alloc, 4095)?;
+    let bindings = made_equal(alloc, bindings, &Ty::Var(9), &most)?.expect(&rt, "within the limit");
+    let more = array(alloc, Ty::Var(0))?;
+    assert!(rt; made_equal(alloc, bindings, &Ty::Var(10), &more)?.is_none());
     Ok(())
 }
 

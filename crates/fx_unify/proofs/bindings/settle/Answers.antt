@@ -1,5 +1,4 @@
-use Rattle.std.proofs.Common.{refl, subst, Ok, Err}
-use Rattle.fx_unify.specs.Judge.{Judging}
+use Rattle.std.proofs.Common.{refl, Ok, Err}
 use Rattle.fx_unify.proofs.JudgeLaws.{settled, has_least, judged_clash, run_clash, judged_over}
 use Rattle.fx_unify.proofs.bindings.settle.Goals as goal
 

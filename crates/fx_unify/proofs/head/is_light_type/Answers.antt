@@ -1,4 +1,4 @@
-use Rattle.std.proofs.Common.{refl, sym, ap, ◌∙◌}
+use Rattle.std.proofs.Common.{sym, ap, ◌∙◌}
 use Rattle.fx_types.specs.Shape.{term}
 use Rattle.fx_types.proofs.ShapeLaws.{term_bool, term_int, term_text, term_time, term_variable}
 use Rattle.fx_unify.specs.Sorts.{is_light}

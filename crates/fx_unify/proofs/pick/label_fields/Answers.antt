@@ -1,7 +1,8 @@
-use Rattle.fx_unify.proofs.RowLaws.{label_copied}
+use Rattle.std.proofs.Common.{refl}
+use Rattle.fx_unify.proofs.RowLaws.{label_moved}
 use Rattle.fx_unify.proofs.pick.label_fields.Goals as goal
 
-pub loop-entry-preserved : goal.loop-entry-preserved
-loop-entry-preserved c =
-    label_copied c.loop-entry.fields c.push.new.self c.as_slice-entry-items.result.now c.loop-entry.entry-index c.entry-item.result c.in_ok-copy.field-0 c.in_ok-copy-2.field-0
-    c.in_ok-push.ensures.ok c.in_ok-copy.ensures c.in_ok-copy-2.ensures c.loop-entry-test.true c.entry-item.is c.loop-entry.invariant
+pub loop-label-preserved : goal.loop-label-preserved
+loop-label-preserved c =
+    label_moved c.loop-label.fields c.push.new.self c.loop-label.yielded c.in-Some.field-0 c.in-Some.field-0.label c.in-Some.field-0.ty c.in_ok-push.ensures.ok refl refl
+    c.loop-label.invariant

@@ -1,4 +1,4 @@
-use Rattle.std.proofs.Common.{◌+◌, refl, ap, ◌∙◌, max}
+use Rattle.std.proofs.Common.{◌+◌, refl, ◌∙◌}
 use Rattle.fx_types.specs.Kinds.{IsAmong}
 use Rattle.fx_unify.proofs.KindLaws.{among}
 use Rattle.fx_unify.proofs.JudgeLaws.{asked_bound, asked_more, refused_more, free_more, var_agrees, if_both}

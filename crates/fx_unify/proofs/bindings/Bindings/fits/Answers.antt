@@ -1,4 +1,4 @@
-use Rattle.std.proofs.Common.{refl, sym, ap, subst, ◌∙◌, max}
+use Rattle.std.proofs.Common.{refl, ap, ◌∙◌, max}
 use Rattle.fx_types.specs.Instance.{ground}
 use Rattle.fx_types.specs.Shape.{term}
 use Rattle.fx_types.specs.Size.{IsType}

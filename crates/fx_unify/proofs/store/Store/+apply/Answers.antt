@@ -5,10 +5,11 @@ use Rattle.fx_types.specs.Instance.{ground, ground_field, ground_pipe, ground_ta
 use Rattle.fx_types.specs.Shape.{term, field_term, rest_term, fun_term, row_term, pipe_of}
 use Rattle.fx_types.specs.Term.{fun, rec}
 use Rattle.fx_types.proofs.ShapeLaws.{field_absent, field_is, field_var}
-use Rattle.fx_unify.specs.Part.{part, value}
+use Rattle.fx_unify.specs.Part.{value}
 use Rattle.fx_unify.specs.PutIn.{IsPutIn}
 use Rattle.fx_unify.specs.Rows.{ground_row}
 use Rattle.fx_unify.specs.Store.{entry}
+use Rattle.fx_unify.specs.View.{part_seen}
 use Rattle.fx_unify.proofs.ApplyLaws.{label_added, labels_all, field_added, fields_all, parts_same, row_same, array_same, fun_same, rec_same, stream_same, copy_same, is_same, variable_same, default_same, start_labels, start_fields}
 use Rattle.fx_unify.proofs.PutInLaws.{term_put, array_put, fun_put, rec_put, stream_put, head_put, no_labels_put, label_put, no_fields_put, field_put, parts_put, row_put, absent_put, is_put, variable_put, free_last, slot_last, default_put, open_put}
 use Rattle.fx_unify.proofs.RowLaws.{if_ok}
@@ -186,32 +187,32 @@ apply_type-returns-in_default-clause-put_in t c =
 
 pub apply_variable-returns-in-Absent-clause-same : goal.apply_variable-returns-in-Absent-clause-same
 apply_variable-returns-in-Absent-clause-same t c =
-    λ s solved. ap (ground_field s) field_absent ∙ sym (ap (λ f. value s (part f)) c.in-Absent.is) ∙ c.in_ok-found.ensures.same s solved
+    λ s solved. ap (ground_field s) field_absent ∙ sym (ap (λ f. value s (part_seen f)) c.in-Absent.is) ∙ c.in_ok-found.ensures.same s solved
 
 pub apply_variable-returns-in-Absent-clause-put_in : goal.apply_variable-returns-in-Absent-clause-put_in
 apply_variable-returns-in-Absent-clause-put_in t c =
     absent_put (entry c.args.self.now)
 
-pub apply_variable-returns-in-Is-clause-same : goal.apply_variable-returns-in-Is-clause-same
-apply_variable-returns-in-Is-clause-same t c =
-    λ s solved. ap (ground_field s) (field_is c.in_ok-apply_type-in-Is.field-0) ∙ ap g_is (c.in_ok-apply_type-in-Is.ensures.same s solved) ∙ sym (ap (λ f. value s (part f)) c.in-Is.is) ∙ c.in_ok-found.ensures.same s solved
+pub apply_variable-returns-in_ok-apply_type-in-Is-clause-same : goal.apply_variable-returns-in_ok-apply_type-in-Is-clause-same
+apply_variable-returns-in_ok-apply_type-in-Is-clause-same t c =
+    λ s solved. ap (ground_field s) (field_is c.in_ok-apply_type-in-Is.field-0) ∙ ap g_is (c.in_ok-apply_type-in-Is.ensures.same s solved) ∙ sym (ap (λ f. value s (part_seen f)) c.in-Is.is) ∙ c.in_ok-found.ensures.same s solved
 
-pub apply_variable-returns-in-Is-clause-put_in : goal.apply_variable-returns-in-Is-clause-put_in
-apply_variable-returns-in-Is-clause-put_in t c =
+pub apply_variable-returns-in_ok-apply_type-in-Is-clause-put_in : goal.apply_variable-returns-in_ok-apply_type-in-Is-clause-put_in
+apply_variable-returns-in_ok-apply_type-in-Is-clause-put_in t c =
     is_put (entry c.args.self.now) c.in_ok-apply_type-in-Is.field-0 c.in_ok-apply_type-in-Is.ensures.put_in
 
 pub apply_variable-returns-in-Var-clause-same : goal.apply_variable-returns-in-Var-clause-same
 apply_variable-returns-in-Var-clause-same t c =
-    λ s solved. ap (ground_field s) (field_var c.in-Var.last) ∙ sym (ap (λ f. value s (part f)) c.in-Var.is) ∙ c.in_ok-found.ensures.same s solved
+    λ s solved. ap (ground_field s) (field_var c.in-Var.last) ∙ sym (ap (λ f. value s (part_seen f)) c.in-Var.is) ∙ c.in_ok-found.ensures.same s solved
 
 pub apply_variable-returns-in-Var-clause-put_in : goal.apply_variable-returns-in-Var-clause-put_in
 apply_variable-returns-in-Var-clause-put_in t c =
     variable_put (entry c.args.self.now) c.in-Var.last (free_last (entry c.args.self.now) c.in_ok-found.found c.in-Var.last c.in-Var.is c.in_ok-found.ensures.free)
 
-pub apply_variable-returns-clause-same : goal.apply_variable-returns-clause-same
-apply_variable-returns-clause-same t c =
+pub apply_variable-returns-in-Slot-clause-same : goal.apply_variable-returns-in-Slot-clause-same
+apply_variable-returns-in-Slot-clause-same t c =
     λ s solved. ap (ground_field s) (field_var c.args.number)
 
-pub apply_variable-returns-clause-put_in : goal.apply_variable-returns-clause-put_in
-apply_variable-returns-clause-put_in t c =
-    variable_put (entry c.args.self.now) c.args.number (slot_last (entry c.args.self.now) c.in_ok-found.found c.args.number _ _ c.in-Slot.is c.in_ok-found.ensures.free c.in_ok-found.ensures.same)
+pub apply_variable-returns-in-Slot-clause-put_in : goal.apply_variable-returns-in-Slot-clause-put_in
+apply_variable-returns-in-Slot-clause-put_in t c =
+    variable_put (entry c.args.self.now) c.args.number (slot_last (entry c.args.self.now) c.in_ok-found.found c.args.number _ _ (ap part_seen c.in-Slot.is) c.in_ok-found.ensures.free c.in_ok-found.ensures.same)

@@ -1,24 +1,25 @@
-use Rattle.std.proofs.Common.{◌↔◌, ap, subst, ◌∙◌, map}
-use Rattle.fx_types.specs.declared.term.RowTy.{out-RowTy}
-use Rattle.fx_types.specs.Shape.{row_term, entry_term, fields_of}
+use Rattle.std.proofs.Common.{◌≡◌, ◌↔◌, refl, sym, subst, true, false}
+use Rattle.fx_types.specs.Ground.{listed}
+use Rattle.fx_types.specs.Shape.{row_term}
+use Rattle.fx_types.specs.Term.{Label}
 use Rattle.fx_unify.specs.Rows.{ground_row, SameAt}
-use Rattle.fx_unify.specs.Work.{Hold}
-use Rattle.fx_unify.proofs.JoinLaws.{compared}
-use Rattle.fx_unify.proofs.RowLaws.{all_known_mono}
+use Rattle.fx_unify.specs.Sums.{names}
+use Rattle.fx_unify.specs.Tails.{Tells}
+use Rattle.fx_unify.specs.Work.{Hold, Holds}
+use Rattle.fx_unify.proofs.CompareLaws.{compared}
+use Rattle.fx_unify.proofs.StoreLaws.{on_ok}
 use Rattle.fx_unify.proofs.store.Store.compare.Goals as goal
 
 pub returns : goal.returns
 returns c =
-    compared c.join.result c.args.self.now (record c.know_all-2.new.self { work = c.put_off_all.new.work }) c.join.new.self c.args.a.now c.args.b.now c.in_ok-left.left c.in_ok-right.right
-    (λ v. c.in_ok-know_all-2.ensures.same v ∙ c.in_ok-know_all.ensures.same v)
-    (all_known_mono (fields_of (map entry_term (out-RowTy c.args.a.now).fields)) c.know_all.new.self.columns.items c.know_all-2.new.self.columns.items c.in_ok-know_all-2.ensures.more
-    c.in_ok-know_all.ensures.known)
-    c.in_ok-know_all-2.ensures.known
-    (λ s. subst
-    (λ ps. Hold s c.put_off_all.new.work.items ↔ (Hold s ps × SameAt (ground_row s (row_term c.args.a.now)) (ground_row s (row_term c.args.b.now)) c.know_all-2.new.self.columns.items))
-    (ap (λ work. work.items) (c.in_ok-know_all-2.ensures.work ∙ c.in_ok-know_all.ensures.work))
-    (subst
-    (λ cs. Hold s c.put_off_all.new.work.items
-    ↔ (Hold s c.know_all-2.new.self.work.items × SameAt (ground_row s (row_term c.args.a.now)) (ground_row s (row_term c.args.b.now)) cs))
-    c.as_slice.ensures.value (c.in_ok-put_off_all.ensures s)))
-    c.in_ok-left.ensures.same c.in_ok-right.ensures.same c.join.ensures
+    on_ok c.meet.result
+    (λ met s. compared c.args.self.now (record c.args.self.now { work = c.put_off_all.new.work }) c.meet.new.self s c.args.a c.args.b c.in_ok-tails.tails c.tails.new.labels.items
+    (λ l h. c.in_ok-tails.ensures.grows.0 l (c.in_ok-add_names-2.ensures.grows.0 l (c.in_ok-add_names.ensures.there l (subst (λ es. listed l (names es) ≡ true) (sym c.as_slice.ensures) h))))
+    (λ l h. c.in_ok-tails.ensures.grows.0 l (c.in_ok-add_names-2.ensures.there l (subst (λ es. listed l (names es) ≡ true) (sym c.as_slice-2.ensures) h)))
+    (λ v. refl)
+    (subst (λ ls. Hold s c.put_off_all.new.work.items ↔ (Hold s c.args.self.now.work.items × SameAt (ground_row s (row_term c.args.a)) (ground_row s (row_term c.args.b)) ls)) c.as_slice-3.ensures.value
+    (c.in_ok-put_off_all.ensures s))
+    (c.in_ok-tails.ensures.tells s)
+    (subst (λ ls. Holds s c.meet.new.self ↔ (Holds s (record c.args.self.now { work = c.put_off_all.new.work }) × ((l : Label) → listed l ls ≡ false → Tells c.in_ok-tails.tails s l))) c.as_slice-4.ensures.value
+    (met s)))
+    c.meet.ensures

@@ -1,0 +1,7 @@
+use Rattle.fx_unify.proofs.labels.add_names.Goals as goal
+use Rattle.fx_unify.proofs.LabelLaws.{all_listed}
+
+pub loop-entry-preserved : goal.loop-entry-preserved
+loop-entry-preserved c =
+    all_listed (λ e. e.label) c.args.entries.now c.loop-entry.entry-index c.entry-item.result c.args.labels.now.items c.loop-entry.labels.items c.add_label.new.labels.items
+    c.loop-entry-test.true c.entry-item.is c.loop-entry.invariant (c.in_ok-add_label.ensures.there, c.in_ok-add_label.ensures.grows)
