@@ -6,8 +6,6 @@ mod copy;
 mod expr;
 mod same;
 mod script;
-#[cfg(test)]
-mod tests;
 
 pub use expr::{Body, Expr, Infix, Link, Node, Param, ParamKind, Part, Prefix, Prop};
 pub use script::{Form, Script, Statement};

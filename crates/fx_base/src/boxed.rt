@@ -56,19 +56,3 @@ impl<T: PartialEq> PartialEq for Boxed<T> {
 impl<T: Eq> Eq for Boxed<T> {
     ghost laws = { T.Eq.laws };
 }
-
-#[cfg(test)]
-mod tests {
-    use super::*;
-    use std::test::Fail;
-
-    #[test]
-    fn holds_one_value(rt: HostRuntime) -> Result<(), Fail> {
-        let one: Boxed<u64> = Boxed::new(rt.alloc(), 1)?;
-        let other = Boxed::new(rt.alloc(), 1)?;
-        assert!(rt; one == other);
-        assert_eq!(rt; *one.get(), 1);
-        assert_eq!(rt; one.into_inner(), 1);
-        Ok(())
-    }
-}

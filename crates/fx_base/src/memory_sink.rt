@@ -55,32 +55,3 @@ impl Sink for MemorySink {
         }
     }
 }
-
-#[cfg(test)]
-mod tests {
-    use super::*;
-    use std::test::Fail;
-
-    fn write_to<S: Sink>(sink: &mut S, piece: &[u8]) -> Result<(), SinkFault> {
-        sink.write(piece)
-    }
-
-    #[test]
-    fn a_numbered_write_keeps_the_first_half_of_its_piece(rt: HostRuntime) -> Result<(), Fail> {
-        let calls = List::of(Vec::from_slice(rt.alloc(), &[2, 3])?);
-        let mut sink = MemorySink::failing(rt.alloc(), calls);
-        let rows: [(&[u8], Result<(), SinkFault>, &[u8]); 5] = [
-            (b"abc", Ok(()), b"abc"),
-            (b"defgh", Err(SinkFault::Failed), b"abcde"),
-            (b"i", Err(SinkFault::Failed), b"abcde"),
-            (b"", Ok(()), b"abcde"),
-            (b"jk", Ok(()), b"abcdejk"),
-        ];
-        for (piece, want, written) in rows {
-            assert_eq!(rt; write_to(&mut sink, piece), want, "{piece:?}");
-            assert_eq!(rt; sink.bytes().as_slice(), written, "{piece:?}");
-        }
-        assert_eq!(rt; sink.faults, 2);
-        Ok(())
-    }
-}

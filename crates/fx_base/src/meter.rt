@@ -25,28 +25,3 @@ impl Meter {
         Ok(())
     }
 }
-
-#[cfg(test)]
-mod tests {
-    use super::*;
-
-    #[test]
-    fn spends_up_to_the_budget(rt: HostRuntime) {
-        let mut meter = Meter {
-            budget: 10,
-            spent: 0,
-        };
-        for (n, want, spent) in [
-            (4, Ok(()), 4),
-            (7, Err(11), 4),
-            (0, Ok(()), 4),
-            (u64::MAX, Err(u64::MAX), 4),
-            (6, Ok(()), 10),
-            (0, Ok(()), 10),
-            (1, Err(11), 10),
-        ] {
-            assert_eq!(rt; meter.spend(n), want, "{n}");
-            assert_eq!(rt; meter, Meter { budget: 10, spent }, "{n}");
-        }
-    }
-}

@@ -38,24 +38,3 @@ impl<L: Ledger> Steps<L> {
         self.book.add(&mut self.share, 1);
     }
 }
-
-#[cfg(test)]
-mod tests {
-    use super::*;
-    use std::marker::Brand;
-
-    fn count<L: Ledger>(blank: Blank)
-        requires name { blank.name ≡ L.name }
-        requires parts { blank.parts ≡ L.parts }
-        requires some { 0 < blank.parts }
-    {
-        let mut steps = Steps::<L>::start(blank);
-        steps.tick();
-        steps.tick();
-    }
-
-    #[test]
-    fn a_count_starts_over_a_blank() {
-        count::<Brand>(Blank::new(1));
-    }
-}

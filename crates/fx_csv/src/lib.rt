@@ -15,6 +15,3 @@ mod text;
 mod writer;
 
 pub use print::{print_yield, write_yield};
-
-#[cfg(test)]
-mod tests;

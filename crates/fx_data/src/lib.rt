@@ -6,8 +6,6 @@ mod key;
 mod shared;
 mod table;
 mod tables;
-#[cfg(test)]
-mod tests;
 
 pub use groups::gather;
 pub use key::{Key, KeyEntry, key_order, key_order_is_total};

@@ -14,6 +14,3 @@ mod word;
 pub use line::{LineError, LineFault, LineMode, LineRead};
 pub use point::{Point, SeriesKey, Tag};
 pub use reader::read_line;
-
-#[cfg(test)]
-mod tests;

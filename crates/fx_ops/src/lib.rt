@@ -14,8 +14,6 @@ mod operand;
 mod operator;
 mod parts;
 mod row;
-#[cfg(test)]
-mod tests;
 mod texts;
 mod whole;
 mod work;

@@ -30,13 +30,9 @@ mod prefixed;
 mod primary;
 mod saying;
 mod script;
-#[cfg(test)]
-mod shown;
 mod span;
 mod statement;
 mod stop;
-#[cfg(test)]
-mod tests;
 mod values;
 
 pub use fault::ParseFault;

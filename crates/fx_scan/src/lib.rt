@@ -14,8 +14,6 @@ mod spans;
 mod symbol_table;
 mod symbols;
 mod taken;
-#[cfg(test)]
-mod tests;
 mod token;
 mod units;
 mod words;

@@ -17,8 +17,6 @@ mod shape;
 mod simple;
 mod sources;
 mod terms;
-#[cfg(test)]
-mod tests;
 mod types;
 
 pub use builtin_type::{BuiltinType, KindBound};

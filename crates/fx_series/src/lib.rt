@@ -6,8 +6,6 @@ mod laws;
 mod series;
 mod series_map;
 mod store;
-#[cfg(test)]
-mod tests;
 
 pub use fault::PutFault;
 pub use laws::{last_point_stands, names_differ, times_rise, unknown_buckets_are_empty};

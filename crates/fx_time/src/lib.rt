@@ -8,8 +8,6 @@ mod print;
 mod read;
 mod round_trip;
 mod span;
-#[cfg(test)]
-mod tests;
 mod window;
 
 pub use fields::{TimeFields, fields_of};

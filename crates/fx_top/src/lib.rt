@@ -15,8 +15,6 @@ mod run;
 mod script;
 mod slices;
 mod source;
-#[cfg(test)]
-mod tests;
 
 pub use cause::LineCause;
 pub use command::Command;

@@ -5,7 +5,5 @@
 mod copy;
 mod size;
 mod term;
-#[cfg(test)]
-mod tests;
 
 pub use term::{FieldTy, FunTy, LabelField, LabelTy, Rest, RowTy, Ty};

@@ -28,8 +28,6 @@ mod sorts;
 mod store;
 mod tag;
 mod tails;
-#[cfg(test)]
-mod tests;
 mod view;
 mod weigh;
 mod work;

@@ -3,7 +3,6 @@ pub mod Change
 pub mod Ends
 pub mod Own
 pub mod Place
-pub mod Probe
 pub mod Row
 pub mod Scalar
 pub mod Slots

@@ -6,16 +6,12 @@ mod answer;
 mod change;
 mod head;
 mod key_test;
-#[cfg(test)]
-mod probe;
 mod row;
 mod row_fun;
 mod scalar;
 mod shape;
 mod slot;
 mod source;
-#[cfg(test)]
-mod tests;
 
 pub use answer::Answer;
 pub use change::{Change, change_rows};
