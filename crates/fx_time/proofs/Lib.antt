@@ -5,4 +5,5 @@ pub mod PrintLemmas
 pub mod ReadLemmas
 pub mod RoundTrip
 pub mod TestLemmas
+pub mod ValueLaws
 pub mod WindowLemmas

@@ -1,15 +1,16 @@
 -- The months one by one, and their days in closed form.
-use Rattle.std.proofs.Common.{◌≡◌, ℕ, zero, suc, ◌+◌, ◌-◌, ◌*◌, ◌/◌, ◌%◌, ◌≤◌, inl, inr, ℤ, pos, negsuc, ◌+ℤ◌, ◌≤ℤ◌, unsigned_abs, FitsSigned, w64, add-one, refl, sym, ap, ◌∙◌, arith}
+use Rattle.std.proofs.Common.{◌≡◌, ℕ, zero, suc, ◌+◌, ◌-◌, ◌*◌, ◌/◌, ◌%◌, ◌≤◌, ◌^◌, inl, inr, ℤ, pos, negsuc, ◌+ℤ◌, ◌≤ℤ◌, unsigned_abs, FitsSigned, w64, add-one, refl, sym, ap, ◌∙◌, arith}
 use Rattle.std.specs.Prelude.{◌<ℤ◌, ◌↔◌, ◌-ℤ◌, neg_ℤ}
 use Rattle.std.specs.Int.{int_div_euclid, int_rem_euclid, IsInRange}
 use Rattle.std.proofs.lemmas.Bool.Decides.{nat_tests}
 use Rattle.jiff_core.proofs.SignedLemmas.{signed_arith, one_part}
 use Rattle.std.proofs.lemmas.Bool.Decides.{leb_tells}
+use Rattle.jiff_core.specs.Calendar.{IsWithin}
 use Rattle.jiff_core.specs.March as jiff
 use Rattle.jiff_core.specs.March.{march_months}
 use Rattle.jiff_core.proofs.MarchLemmas.{day_count-early, day_count-late}
 use Rattle.fx_time.specs.Calendar.{Date, date_after, clock_of, nanos_of_day, days_in_month}
-use Rattle.fx_time.proofs.PrintLemmas.{days, days_is}
+use Rattle.fx_time.proofs.PrintLemmas.{days, days_near}
 use Rattle.fx_time.proofs.TestLemmas.{int_tells}
 use Rattle.fx_time.proofs.CalendarLemmas.{IsDay, date_after-is}
 use Rattle.fx_time.specs.Months.{year_of, month_days, days_after, days_before, first_day, month_of, HoldsDay}
@@ -145,7 +146,7 @@ early_march y m low high =
     let month : ((y + 9999) * 12 + (m + 9)) % 12 ≡ m + 9 = omega arith in
     rw (e, year, month) (omega arith)
 
-date_is : (n : ℕ) (d : Date) → IsDay n d → (first_day (month_of d) +ℤ pos d.day) ≡ (pos n -ℤ pos 719_527)
+pub date_is : (n : ℕ) (d : Date) → IsDay n d → (first_day (month_of d) +ℤ pos d.day) ≡ (pos n -ℤ pos 719_527)
 date_is n d h =
     let count = h.count in
     let first = first_day-march (month_of d) (d.year * 12 + d.month + 119_997) (omega (arith, signed_arith)) in
@@ -166,28 +167,31 @@ date_first n = date_is n (date_after n) (date_after-is n)
 
 -- ---- the month of a time
 
-module _ (t : ℤ) (fits : FitsSigned w64 t) where
+module _ (t : ℤ) (near : IsWithin (2 ^ 65) t) where
   -- the days from the first of the month to the day of the month
-  pub clock_day : (first_day (month_of (clock_of t).date) +ℤ pos (clock_of t).date.day) ≡ (int_div_euclid t (pos nanos_of_day) +ℤ pos 1)
-  clock_day =
-      let day = days_is t fits in
+  pub day_near : (first_day (month_of (clock_of t).date) +ℤ pos (clock_of t).date.day) ≡ (int_div_euclid t (pos nanos_of_day) +ℤ pos 1)
+  day_near =
+      let day = days_near t near in
       let first = date_first (days t) in
-      omega (arith, signed_arith, day.0)
+      omega (arith, signed_arith)
 
-  pub clock_month : HoldsDay (month_of (clock_of t).date) (int_div_euclid t (pos nanos_of_day))
-  clock_month =
+  pub month_near : HoldsDay (month_of (clock_of t).date) (int_div_euclid t (pos nanos_of_day))
+  month_near =
       let is = date_after-is (days t) in
-      let place = clock_day in
+      let place = day_near in
       let next = first_day-next (month_of (clock_of t).date) in
       let length = month_days-date (clock_of t).date is.month in
       let low = is.day.0 in
       let high : (clock_of t).date.day ≤ month_days (month_of (clock_of t).date) = rw length is.day.1 in
       (omega (arith, signed_arith), omega (arith, signed_arith))
 
-  pub clock_place : (1 ≤ (clock_of t).date.day) × ((clock_of t).date.day ≤ 31)
-  clock_place =
-      let place = clock_day in
-      let month = clock_month in
-      let next = first_day-next (month_of (clock_of t).date) in
-      let most = month_days_bounds (month_of (clock_of t).date) in
-      (omega (arith, signed_arith), omega (arith, signed_arith))
+-- the same for a time in 64 bits, which lies well within that bound
+
+fits_near : (t : ℤ) → FitsSigned w64 t → IsWithin (2 ^ 65) t
+fits_near t fits = (omega (arith, signed_arith), omega (arith, signed_arith))
+
+pub clock_day : (t : ℤ) → FitsSigned w64 t → (first_day (month_of (clock_of t).date) +ℤ pos (clock_of t).date.day) ≡ (int_div_euclid t (pos nanos_of_day) +ℤ pos 1)
+clock_day t fits = day_near t (fits_near t fits)
+
+pub clock_month : (t : ℤ) → FitsSigned w64 t → HoldsDay (month_of (clock_of t).date) (int_div_euclid t (pos nanos_of_day))
+clock_month t fits = month_near t (fits_near t fits)

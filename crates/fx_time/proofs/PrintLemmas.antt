@@ -1,7 +1,8 @@
 -- What the library prints for an instant is the text of the instant.
-use Rattle.std.proofs.Common.{◌≡◌, ℕ, ◌<◌, [], ◌∷◌, ◌++◌, None, false, ℤ, pos, ◌+ℤ◌, ◌≤ℤ◌, unsigned_abs, FitsSigned, w64, refl, sym, ap, ◌∙◌, arith}
+use Rattle.std.proofs.Common.{◌≡◌, ℕ, ◌^◌, ◌<◌, [], ◌∷◌, ◌++◌, None, false, ℤ, pos, ◌+ℤ◌, ◌≤ℤ◌, unsigned_abs, FitsSigned, w64, refl, sym, ap, ◌∙◌, arith}
 use Rattle.std.specs.Int.{int_div_euclid, int_rem_euclid}
 use Rattle.jiff_core.specs.declared.civil.datetime.DateTime.{DateTime}
+use Rattle.jiff_core.specs.Calendar.{IsWithin}
 use Rattle.jiff_core.specs.Date.{epoch_day}
 use Rattle.jiff_core.specs.Time.{time_nanos}
 use Rattle.jiff_core.specs.DateTime.{civil_nanos}
@@ -20,11 +21,17 @@ days t = unsigned_abs (int_div_euclid t (pos nanos_of_day) +ℤ pos 719_528)
 abbrev pub nanos : ℤ → ℕ
 nanos t = unsigned_abs (int_rem_euclid t (pos nanos_of_day))
 
+-- the days from 1 January of the year 0 to a time, also to one that is a little past 64 bits
+pub days_near : (t : ℤ) → IsWithin (2 ^ 65) t → pos (days t) ≡ int_div_euclid t (pos nanos_of_day) +ℤ pos 719_528
+days_near t near =
+    let parts = int_div_euclid-parts t nanos_of_day (omega arith) in
+    nonneg_abs (int_div_euclid t (pos nanos_of_day) +ℤ pos 719_528) (omega (arith, signed_arith, near))
+
 pub days_is : (t : ℤ) → FitsSigned w64 t → (pos (days t) ≡ int_div_euclid t (pos nanos_of_day) +ℤ pos 719_528) × (days t < 3_652_425)
 days_is t f =
     let parts = int_div_euclid-parts t nanos_of_day (omega arith) in
-    let low : pos 0 ≤ℤ (int_div_euclid t (pos nanos_of_day) +ℤ pos 719_528) = omega (arith, signed_arith, f) in
-    let same = nonneg_abs (int_div_euclid t (pos nanos_of_day) +ℤ pos 719_528) low in
+    let parts = int_div_euclid-parts t nanos_of_day (omega arith) in
+    let same = days_near t (omega (arith, signed_arith, f), omega (arith, signed_arith, f)) in
     (same, omega (arith, signed_arith, f))
 
 nanos_is : (dt : DateTime) (t : ℤ) → civil_nanos dt ≡ t → nanos t ≡ time_nanos dt.time

@@ -14,16 +14,10 @@ use Rattle.jiff_fmt.proofs.Cases.{by_bool}
 use Rattle.fx_time.specs.declared.read.Moment.{Moment}
 use Rattle.fx_time.specs.Calendar.{Date, date_after, clock_on, nanos_of_day}
 use Rattle.fx_time.specs.Front.{date_front, clock_front, fraction_front, zone_front, moment_front, clock_after, midnight}
+use Rattle.fx_time.specs.Value.{date_of_moment, moment_at}
 use Rattle.fx_time.specs.Time.{date_text, seconds_text, fraction_text, zone_text, zone_nanos, IsZone, Zone, Utc, Ahead, Behind, instant, IsFraction, IsMidnight, IsMoment, IsTime}
 use Rattle.fx_time.proofs.CalendarLemmas.{date_after-is, year_small}
 use Rattle.fx_time.proofs.FrontLemmas.{then_back, some_back, date_of, date_back, clock_back, clock_digits, fraction_back, zone_back, date_is, clock_is, fraction_is, zone_is, zone_stops}
-
-abbrev pub date_of_moment : Moment → Date
-date_of_moment m = record { year = m.year; month = m.month; day = m.day }
-
--- the instant that a moment means, where its date is that many days after 1 January of the year 0
-abbrev pub moment_at : ℕ → Moment → ℤ
-moment_at n m = instant n m.nanos -ℤ signed m.behind (m.minutes * 60_000_000_000)
 
 -- the whole text, whether it is empty decides
 
@@ -127,6 +121,20 @@ moment_means text m n t h day value =
           ∙ ap (λ x. x ++ fraction_text after.digits ++ zone_text after.zone) (sym (seconds_spelled (date_after n) m.nanos));
       value = value ∙ ap (λ o. instant n m.nanos -ℤ o) after.offset;
     })))
+
+-- a year that was read has four digits
+pub year_read : (text : List ℕ) (m : Moment) → moment_front text ≡ Some m → m.year < 10_000
+unfolding moment_front
+year_read text m h =
+    then_back (date_front text) _ m h (λ d ed h₁.
+    let date = date_back text d ed in
+    by_bool (length d.1 == 0)
+    (λ ended.
+    let is = some_back _ m (rw ended at h₁) in
+    subst (λ q. q.year < 10_000) is date.0)
+    (λ more.
+    let after = clock_after_back d.0 d.1 m (rw more at h₁) in
+    subst (λ q. q.year < 10_000) (sym after.date) date.0))
 
 zone_bound : (z : Zone) → IsZone z → (neg_ℤ (pos 86_400_000_000_000) ≤ℤ zone_nanos z) × (zone_nanos z ≤ℤ pos 86_400_000_000_000)
 zone_bound Utc h = (omega (arith, signed_arith), omega (arith, signed_arith))

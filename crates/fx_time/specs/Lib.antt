@@ -5,4 +5,5 @@ pub mod March
 pub mod Months
 pub mod Spans
 pub mod Time
+pub mod Value
 pub mod Windows

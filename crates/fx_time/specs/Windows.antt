@@ -1,6 +1,8 @@
 -- Windows of time. They are numbered by the whole numbers; bounds have no limit.
-use Rattle.std.specs.Prelude.{◌≡◌, ◌⊎◌, ◌^◌, ◌-◌, ℤ, pos, neg_ℤ, ◌+ℤ◌, ◌*ℤ◌, ◌≤ℤ◌, ◌<ℤ◌, int_lt, Bool, if◌then◌else◌}
-use Rattle.fx_time.specs.Months.{month_start}
+use Rattle.std.specs.Prelude.{◌≡◌, ◌⊎◌, ◌^◌, ◌-◌, ℤ, pos, neg_ℤ, ◌+ℤ◌, ◌-ℤ◌, ◌*ℤ◌, ◌≤ℤ◌, ◌<ℤ◌, int_lt, Bool, if◌then◌else◌}
+use Rattle.std.specs.Int.{int_div_euclid}
+use Rattle.fx_time.specs.Calendar.{clock_of}
+use Rattle.fx_time.specs.Months.{month_of, month_start}
 use Rattle.fx_time.specs.declared.span.Span.{Span}
 
 -- a number of nanoseconds, or of months up to 12,000
@@ -38,6 +40,20 @@ AreBounds every t bounds =
 -- the least number with the property
 abbrev pub IsLeast : (ℤ → Type 0) → ℤ → Type 0
 IsLeast P n = P n × ((k : ℤ) → P k → n ≤ℤ k)
+
+-- the month of a time
+abbrev pub month_at : ℤ → ℤ
+month_at t = month_of (clock_of t).date
+
+-- the number of the last window that starts at the time or before: the nanoseconds from 1970 on, or the months, over
+-- the distance of windows, rounded down
+abbrev pub last_started : Span → ℤ → ℤ
+last_started every t = if has_months every then int_div_euclid (month_at t) every.months else int_div_euclid t every.nanos
+
+-- the number of the last window that stops at the time or before: it starts a period before
+abbrev pub last_stopped : Span → Span → ℤ → ℤ
+last_stopped every period t =
+    if has_months period then int_div_euclid (month_at t -ℤ period.months) every.months else last_started every (t -ℤ period.nanos)
 
 -- the window comes near a time in 64 bits: it ends after the least of them, and doesn't start after the greatest
 abbrev pub IsNear : Span → Span → ℤ → Type 0

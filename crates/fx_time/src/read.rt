@@ -5,6 +5,7 @@ ghost use Rattle.jiff_core.specs.Sign.{signed};
 ghost use Rattle.fx_time.specs.Calendar.{Date, date_after};
 ghost use Rattle.fx_time.specs.Front.{moment_front};
 ghost use Rattle.fx_time.specs.Time.{IsTime, instant};
+ghost use Rattle.fx_time.specs.Value.{time_value};
 
 use crate::front;
 use jiff_core::civil::Date;
@@ -23,7 +24,8 @@ struct Moment {
 
 /// The time that a text spells, or None where it spells none.
 pub fn read_time(text: &[u8]) -> Option<i64>
-    ensures { (t : ℤ) → IsTime text.now t ↔ (result ≡ Some t) }
+    ensures is { (t : ℤ) → IsTime text.now t ↔ (result ≡ Some t) }
+    ensures value { result ≡ time_value text.now }
 {
     let moment = read_moment(text)?;
     let days = days_of(moment.year, moment.month, moment.day)?;

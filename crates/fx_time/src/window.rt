@@ -3,7 +3,7 @@ ghost use Rattle.std.specs.Prelude.{◌≡◌, ◌↔◌, ◌^◌, ◌-◌, ℕ,
 ghost use Rattle.std.specs.Int.{int_div_euclid};
 ghost use Rattle.jiff_core.specs.Calendar.{IsBetween, IsWithin};
 ghost use Rattle.fx_time.specs.Months.{month_start};
-ghost use Rattle.fx_time.specs.Windows.{IsWindow, IsWindowPair, has_months, window_start, window_stop, Holds, AreBounds, IsLeast, IsNear};
+ghost use Rattle.fx_time.specs.Windows.{IsWindow, IsWindowPair, has_months, window_start, window_stop, Holds, AreBounds, IsLeast, IsNear, month_at, last_started, last_stopped};
 
 use crate::calendar::{NANOS_OF_DAY, first_day, month_of_day};
 use crate::span::Span;
@@ -37,6 +37,8 @@ pub fn windows_at(t: i64, every: Span, period: Span) -> (i128, i128)
     requires { IsWindowPair every period }
     ensures first { IsLeast (λ k. t <ℤ window_stop every period k) result.0 }
     ensures second { IsLeast (λ k. t <ℤ window_start every k) result.1 }
+    ensures stopped { result.0 ≡ last_stopped every period t +ℤ pos 1 }
+    ensures started { result.1 ≡ last_started every t +ℤ pos 1 }
     ensures holding { (k : ℤ) → ((result.0 ≤ℤ k) × (k <ℤ result.1)) ↔ Holds every period t k }
 {
     let stopped = last_stopped(t, every, period);
@@ -88,6 +90,7 @@ fn month_start(month: i128) -> i128
 fn last_stopped(t: i64, every: Span, period: Span) -> i128
     requires { IsWindowPair every period }
     ensures last { (k : ℤ) → (t <ℤ window_stop every period k) ↔ (result <ℤ k) }
+    ensures value { result ≡ last_stopped every period t }
     ensures bound { IsWithin (2 ^ 66) result }
 {
     if period.months > 0 {
@@ -103,6 +106,7 @@ fn last_started(t: i128, every: Span) -> i128
     requires window { IsWindow every }
     requires near { IsWithin (2 ^ 65) t }
     ensures last { (k : ℤ) → (t <ℤ window_start every k) ↔ (result <ℤ k) }
+    ensures value { result ≡ last_started every t }
     ensures bound { IsWithin (2 ^ 66) result }
 {
     if every.months > 0 {
@@ -116,6 +120,7 @@ fn last_started(t: i128, every: Span) -> i128
 fn month_at(t: i128) -> i64
     requires { IsWithin (2 ^ 65) t }
     ensures last { (k : ℤ) → (t <ℤ month_start k) ↔ (result <ℤ k) }
+    ensures value { result ≡ month_at t }
     ensures bound { IsWithin 40_000 result }
 {
     month_of_day(quotient(t, NANOS_OF_DAY) as i64)

@@ -19,6 +19,6 @@ pub returns-in-None : goal.returns-in-None
 returns-in-None c =
     unread_time c.args.s.now c.len_by_form-len.result c.len_by_form-len.ensures
     (λ t h.
-    let read = (c.read_time.ensures t).0 (subst (λ x. IsTime x t) (sym c.front.ensures) h) in
+    let read = (c.read_time.ensures.is t).0 (subst (λ x. IsTime x t) (sym c.front.ensures) h) in
     let e : None ≡ Some t = sym c.in-None.is ∙ read in
     cc)

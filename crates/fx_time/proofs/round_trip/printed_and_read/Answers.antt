@@ -9,4 +9,4 @@ returns c =
     let f : FitsSigned w64 c.args.t = c.ranges.t in
     let shown = simp to_z-of_z at c.stamp-text.ensures in
     let text = c.as_bytes.ensures.value ∙ c.as_str.ensures.value ∙ shown in
-    (c.read_time.ensures c.args.t).0 (subst (λ x. IsTime x c.args.t) (sym text) (time_text-is_time c.args.t f))
+    (c.read_time.ensures.is c.args.t).0 (subst (λ x. IsTime x c.args.t) (sym text) (time_text-is_time c.args.t f))
