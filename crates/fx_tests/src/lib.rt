@@ -4,6 +4,12 @@
 #![tactic(auto)]
 
 #[cfg(test)]
+mod operators;
+#[cfg(test)]
 mod outside;
 #[cfg(test)]
 mod top;
+#[cfg(test)]
+mod trees;
+#[cfg(test)]
+mod types;
