@@ -7,3 +7,4 @@ pub mod Row
 pub mod Scalar
 pub mod Slots
 pub mod Source
+pub mod Works
