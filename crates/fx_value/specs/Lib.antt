@@ -1,6 +1,7 @@
 pub mod Calls
 pub mod Change
 pub mod Ends
+pub mod KeyTest
 pub mod Own
 pub mod Place
 pub mod Row
