@@ -1,4 +1,5 @@
 pub mod Gathered
 pub mod Key
+pub mod Regrouped
 pub mod Shared
 pub mod Table
