@@ -1,3 +1,4 @@
+pub mod Columns
 pub mod Gathered
 pub mod GatheredRows
 pub mod Keys
@@ -5,3 +6,4 @@ pub mod Lawful
 pub mod Regrouped
 pub mod Rise
 pub mod SharedKeys
+pub mod Sorted

@@ -1,6 +1,7 @@
 //! Tables, their keys and the order of keys, and rows regrouped under the keys of their values.
 #![tactic(auto)]
 
+mod column;
 mod groups;
 mod key;
 mod keyed_row;
@@ -12,6 +13,7 @@ mod shared;
 mod table;
 mod tables;
 
+pub use column::key_with;
 pub use groups::collect;
 pub use key::{Key, KeyEntry, key_order, key_order_is_total};
 pub use keyed_row::KeyedRow;
