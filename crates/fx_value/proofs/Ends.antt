@@ -3,8 +3,7 @@ use Rattle.std.proofs.Common.{◌≡◌, ℕ, ◌+◌, ◌≤◌, true, false, L
 use Rattle.std.specs.Prelude.{cond, nat_le}
 use Rattle.std.specs.List.{AllByRecursion}
 use Rattle.std.proofs.lemmas.Bool.{leb-true, le-leb}
-use Rattle.fx_base.specs.declared.fault.Fault.{Fault}
-use Rattle.fx_value.specs.Ends.{End, Gives, Faults, Stuck, More, later, and_then, cut, NeverStuck, IsWithin, Stays, IsLimited}
+use Rattle.fx_value.specs.Ends.{End, Gives, Faults, Stuck, More, later, and_then, cut, IsWithin, Stays, IsLimited}
 use Rattle.fx_value.specs.Works.{flat_each, walk, into, Extends, InTime, IsSteady}
 
 -- ---- ends one after another

@@ -9,7 +9,7 @@ use Rattle.fx_base.specs.declared.meter.Meter.{Meter}
 use Rattle.fx_value.specs.Calls.{IsReady, IsMetered, Ended, Exceeded, Answers}
 use Rattle.fx_value.specs.Ends.{End, Gives, Faults, Stuck, More, later, and_then, cut, NeverStuck}
 use Rattle.fx_value.specs.Works.{flat_each, walk, into, Extends, IsSteady}
-use Rattle.fx_value.proofs.Ends.{later-zero, later-later, then-then, then-gives, steady_same}
+use Rattle.fx_value.proofs.Ends.{later-zero, later-later, then-then, then-gives}
 
 -- ---- meters
 
