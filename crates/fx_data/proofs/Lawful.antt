@@ -20,6 +20,7 @@ use Rattle.fx_data.specs.Key.{key_cmp}
 use Rattle.fx_data.specs.Regrouped.{bare}
 use Rattle.fx_data.specs.Table.{HasKey, HasRisingLabels, IsLawfulTable, AreLawful}
 use Rattle.fx_data.proofs.Keys.{key_cmp_total, key_same}
+use Rattle.fx_data.proofs.Sorted.{keys_rise}
 
 pub no_tables_lawful : AreLawful []
 unfolding IsStrictlySortedBy
@@ -88,33 +89,16 @@ all_good ts h = all-from_entries _ (all_pairs ts ts h h)
 
 -- ---- the order of the keys
 
-first : (a b : Bool) → T (a && b) → T a
-first true b p = tt
-first false b p = p
-
-second : (a b : Bool) → T (a && b) → T b
-second true b p = p
-second false b p = absurd p
-
-less : (o : Ordering) → T (is_lt o) → o ≡ Less
-less Less p = refl
-less Equal p = absurd p
-less Greater p = absurd p
-
-all_above : (k : Key) (es : List (Key × Rows)) → T (below_all key_cmp k es) → AllByRecursion (λ q. key_cmp k q ≡ Less) (map (λ t. t.key) (map table_of es))
-all_above k [] h = tt
-all_above k (e ∷ es) h = (less _ (first _ _ h), all_above k es (second _ _ h))
-
-all_rise : (es : List (Key × Rows)) → T (is_sorted key_cmp es) → IsStrictlySortedBy key_cmp (map (λ t. t.key) (map table_of es))
-unfolding IsStrictlySortedBy
-all_rise [] h = tt
-all_rise (e ∷ es) h = (all_above e.0 es (first _ _ h), all_rise es (second _ _ h))
+keys_of_tables : (es : List (Key × Rows)) → map (λ t. t.key) (map table_of es) ≡ map (λ e. e.0) es
+keys_of_tables [] = refl
+keys_of_tables (e ∷ es) = ap (λ ks. e.0 ∷ ks) (keys_of_tables es)
 
 -- lawful tables that are gathered are lawful, and their keys rise
 pub gathered_lawful : (ts : List Table) → AllByRecursion IsLawfulTable ts → AreLawful (gathered ts)
 unfolding gathered
 gathered_lawful ts h =
-    record { each = all_tables _ (all_good ts h); rising = all_rise _ (fin.entries_sorted (grouped ts)) }
+    let es = fin.entries (grouped ts) in
+    record { each = all_tables _ (all_good ts h); rising = subst (IsStrictlySortedBy key_cmp) (sym (keys_of_tables es)) (keys_rise key_cmp es (fin.entries_sorted (grouped ts))) }
 
 -- ---- fewer rows, and fewer tables
 

@@ -19,11 +19,11 @@ use Rattle.fx_data.specs.declared.keyed_row.KeyedRow.{KeyedRow}
 use Rattle.fx_data.specs.declared.table.Table.{Table}
 use Rattle.fx_data.specs.Gathered.{grouped}
 use Rattle.fx_data.specs.Key.{key_cmp}
-use Rattle.fx_data.specs.Regrouped.{entry_after, after, new_key, alone, joined, all_joined}
-use Rattle.fx_data.specs.Table.{shown, HasKey, HasRisingLabels, IsLawfulTable}
+use Rattle.fx_data.specs.Regrouped.{entry_after, after, new_key, alone, bare, joined, all_joined, regrouped, regrouped_with}
+use Rattle.fx_data.specs.Table.{shown, HasKey, HasRisingLabels, IsLawfulTable, AreLawful}
 use Rattle.fx_data.proofs.Gathered.{Rows, get-grouped-append}
 use Rattle.fx_data.proofs.Keys.{key_cmp_total, key_same}
-use Rattle.fx_data.proofs.Lawful.{all-append, lawful_push, lawful_before, lawful_last}
+use Rattle.fx_data.proofs.Lawful.{all-append, bare_lawful, gathered_lawful, lawful_push, lawful_before, lawful_last}
 
 abbrev Row : Type 0
 Row = FinMap text_cmp Scalar
@@ -160,6 +160,23 @@ new_key_rises key row h = rising_after row key.entries h
 pub alone_lawful : (key : Key) (row : Row) → HasRisingLabels key → IsLawfulTable (alone (record { key = key; row = row }))
 unfolding new_key
 alone_lawful key row h = record { rising = rising_after row key.entries h; columns = (has_after row key.entries, tt) }
+
+all_alone : (rows : List KeyedRow) → AllByRecursion (λ r. HasRisingLabels r.key) rows → AllByRecursion IsLawfulTable (map alone rows)
+all_alone [] h = tt
+all_alone (r ∷ rows) h = (alone_lawful r.key r.row h.0, all_alone rows h.1)
+
+all_bare : (keys : List Key) → AllByRecursion HasRisingLabels keys → AllByRecursion IsLawfulTable (map bare keys)
+all_bare [] h = tt
+all_bare (key ∷ keys) h = (bare_lawful key h.0, all_bare keys h.1)
+
+-- regrouped rows are lawful tables
+pub regrouped_lawful : (rows : List KeyedRow) → AllByRecursion (λ r. HasRisingLabels r.key) rows → AreLawful (regrouped rows)
+regrouped_lawful rows h = gathered_lawful (map alone rows) (all_alone rows h)
+
+pub regrouped_with_lawful : (rows : List KeyedRow) (empties : List Key) → AllByRecursion (λ r. HasRisingLabels r.key) rows → AllByRecursion HasRisingLabels empties
+    → AreLawful (regrouped_with rows empties)
+regrouped_with_lawful rows empties h g =
+    gathered_lawful (map alone rows ++ map bare empties) (all-append IsLawfulTable (map alone rows) (map bare empties) (all_alone rows h) (all_bare empties g))
 
 entry_kept : (e : KeyEntry) → entry_after e (shown e) ≡ Some e
 entry_kept e =

@@ -6,7 +6,7 @@ use Rattle.fx_base.specs.declared.fault.Fault.{Fault}
 use Rattle.fx_base.specs.declared.halt.Halt.{Halt}
 use Rattle.fx_base.specs.declared.halt.Halt.TheVariants as halt
 use Rattle.fx_base.specs.declared.meter.Meter.{Meter}
-use Rattle.fx_value.specs.Calls.{IsReady, IsMetered, Ended, Exceeded, Answers}
+use Rattle.fx_value.specs.Calls.{IsReady, IsMetered, Ended, Exceeded, Answers, Told}
 use Rattle.fx_value.specs.Ends.{End, Gives, Faults, Stuck, More, later, and_then, cut, NeverStuck}
 use Rattle.fx_value.specs.Works.{flat_each, walk, into, Extends, IsSteady}
 use Rattle.fx_value.proofs.Ends.{later-zero, later-later, then-then, then-gives}
@@ -230,6 +230,23 @@ module _ {X Y G : Type 0} (add : G → List Y → G) (more : (g : G) (ys zs : Li
         goes_ends whole g before now
         (goes_along whole (λ n. into add g (flat_each (step n) left)) (λ n. Gives g 0) before now
         (λ n. ap (λ items. into add g (flat_each (step n) items)) none ∙ ap (λ v. Gives v 0) nothing) goes)
+
+-- ---- work that takes no ticks
+
+module _ {A B : Type 0} (part : End A) (next : A → End B) where
+  -- the part gave a value: the whole is what follows from it
+  pub told_then : (value : A) → part ≡ Gives value 0 → and_then part next ≡ next value
+  told_then value told = ap (λ e. and_then e next) told ∙ later-zero (next value)
+
+  -- the part ended without a value, and so does the whole
+  pub told_stops : (why : Halt) → Told part (Err why) → Told (and_then part next) (Err why)
+  told_stops (halt.Fault fault) told = ap (λ e. and_then e next) told
+  told_stops (halt.Budget sum) told = told
+  told_stops halt.Memory told = tt
+
+  -- a part of work that isn't Stuck isn't Stuck
+  pub told_unstuck : (and_then part next ≡ Stuck → ⊥) → part ≡ Stuck → ⊥
+  told_unstuck unstuck stuck = unstuck (ap (λ e. and_then e next) stuck)
 
 -- ---- the public call of an operator, whose work is cut at its limit
 
