@@ -20,6 +20,7 @@ use Rattle.fx_data.specs.declared.table.Table.{Table}
 use Rattle.fx_data.specs.Gathered.{rows_with, grouped, gathered, table_of}
 use Rattle.fx_data.specs.Key.{key_cmp}
 use Rattle.fx_data.proofs.Keys.{key_cmp_total, key_same}
+use Rattle.fx_data.proofs.Sorted.{sorted_keys}
 
 abbrev pub Rows : Type 0
 Rows = List (FinMap text_cmp Scalar)
@@ -130,25 +131,12 @@ lookup-find : (k : Key) (es : List (Key × Rows)) → lookup (is_at (key_cmp k))
 lookup-find k [] = refl
 lookup-find k (e ∷ es) = ap (cond (eq_by_cmp key_cmp k e.0) (Some e.1)) (lookup-find k es)
 
-both : (a b : Bool) → T a → T b → T (a && b)
-both true b p q = q
-both false b p q = p
-
-below-keys : (k : Key) (es : List (Key × Rows)) → AllByRecursion (λ q. key_cmp k q ≡ Less) (keys_of es) → T (below_all key_cmp k es)
-below-keys k [] h = tt
-below-keys k (e ∷ es) h = both _ _ (subst (λ o. T (is_lt o)) (sym h.0) tt) (below-keys k es h.1)
-
-sorted-keys : (es : List (Key × Rows)) → IsStrictlySortedBy key_cmp (keys_of es) → T (is_sorted key_cmp es)
-unfolding IsStrictlySortedBy
-sorted-keys [] h = tt
-sorted-keys (e ∷ es) h = both _ _ (below-keys e.0 es h.0) (sorted-keys es h.1)
-
 -- entries that answer as the groups do are theirs
 pub entries_are : (es : List (Key × Rows)) (ts : List Table) → IsStrictlySortedBy key_cmp (keys_of es)
     → ((k : Key) → lookup (is_at (key_cmp k)) es ≡ fin.get (grouped ts) k) → map table_of es ≡ gathered ts
 unfolding gathered
 entries_are es ts sorted answers =
-    ap (map table_of) (same_entries key_cmp key_cmp_total key_same es (fin.entries (grouped ts)) (sorted-keys es sorted) (fin.entries_sorted (grouped ts))
+    ap (map table_of) (same_entries key_cmp key_cmp_total key_same es (fin.entries (grouped ts)) (sorted_keys key_cmp es sorted) (fin.entries_sorted (grouped ts))
     (λ k. sym (lookup-find k es) ∙ answers k ∙ fin.get-entries (grouped ts) k))
 
 -- no tables make no groups

@@ -1,5 +1,6 @@
 -- Lists of lawful tables, and that gathered tables are lawful.
-use Rattle.std.proofs.Common.{◌≡◌, Bool, true, false, T, List, [], ◌∷◌, ◌++◌, map, length, refl, sym, subst, ◌∙◌, arith}
+use Rattle.std.proofs.Common.{◌≡◌, Bool, true, false, T, List, [], ◌∷◌, ◌++◌, map, length, refl, sym, ap, subst, ◌∙◌, arith}
+use Rattle.std.proofs.lemmas.List.{append-nil}
 use Rattle.std.specs.Prelude.{cond, ◌&&◌}
 use Rattle.std.specs.declared.cmp.Ordering.{Ordering}
 use Rattle.std.specs.declared.cmp.Ordering.TheVariants.{Less, Equal, Greater}
@@ -13,12 +14,13 @@ use Rattle.std.specs.FinMap.Entries.{by_order, put, is_sorted, below_all}
 use Rattle.fx_base.specs.Text.{text_cmp}
 use Rattle.fx_value.specs.declared.scalar.Scalar.{Scalar}
 use Rattle.fx_data.specs.declared.key.Key.{Key}
-use Rattle.fx_data.specs.declared.key.KeyEntry.{KeyEntry}
 use Rattle.fx_data.specs.declared.table.Table.{Table}
 use Rattle.fx_data.specs.Gathered.{rows_with, grouped, gathered, table_of}
 use Rattle.fx_data.specs.Key.{key_cmp}
-use Rattle.fx_data.specs.Table.{HasKey, IsLawfulTable, AreLawful}
+use Rattle.fx_data.specs.Regrouped.{bare}
+use Rattle.fx_data.specs.Table.{HasKey, HasRisingLabels, IsLawfulTable, AreLawful}
 use Rattle.fx_data.proofs.Keys.{key_cmp_total, key_same}
+use Rattle.fx_data.proofs.Sorted.{keys_rise}
 
 pub no_tables_lawful : AreLawful []
 unfolding IsStrictlySortedBy
@@ -31,7 +33,7 @@ Rows = List (FinMap text_cmp Scalar)
 abbrev IsGood : Key × Rows → Type 0
 IsGood e = IsLawfulTable (table_of e)
 
-all-append : {X : Type 0} (P : X → Type 0) (xs ys : List X) → AllByRecursion P xs → AllByRecursion P ys → AllByRecursion P (xs ++ ys)
+pub all-append : {X : Type 0} (P : X → Type 0) (xs ys : List X) → AllByRecursion P xs → AllByRecursion P ys → AllByRecursion P (xs ++ ys)
 all-append P [] ys g h = h
 all-append P (x ∷ xs) ys g h = (g.0, all-append P xs ys g.1 h)
 
@@ -87,50 +89,75 @@ all_good ts h = all-from_entries _ (all_pairs ts ts h h)
 
 -- ---- the order of the keys
 
-first : (a b : Bool) → T (a && b) → T a
-first true b p = tt
-first false b p = p
-
-second : (a b : Bool) → T (a && b) → T b
-second true b p = p
-second false b p = absurd p
-
-less : (o : Ordering) → T (is_lt o) → o ≡ Less
-less Less p = refl
-less Equal p = absurd p
-less Greater p = absurd p
-
-all_above : (k : Key) (es : List (Key × Rows)) → T (below_all key_cmp k es) → AllByRecursion (λ q. key_cmp k q ≡ Less) (map (λ t. t.key) (map table_of es))
-all_above k [] h = tt
-all_above k (e ∷ es) h = (less _ (first _ _ h), all_above k es (second _ _ h))
-
-all_rise : (es : List (Key × Rows)) → T (is_sorted key_cmp es) → IsStrictlySortedBy key_cmp (map (λ t. t.key) (map table_of es))
-unfolding IsStrictlySortedBy
-all_rise [] h = tt
-all_rise (e ∷ es) h = (all_above e.0 es (first _ _ h), all_rise es (second _ _ h))
+keys_of_tables : (es : List (Key × Rows)) → map (λ t. t.key) (map table_of es) ≡ map (λ e. e.0) es
+keys_of_tables [] = refl
+keys_of_tables (e ∷ es) = ap (λ ks. e.0 ∷ ks) (keys_of_tables es)
 
 -- lawful tables that are gathered are lawful, and their keys rise
 pub gathered_lawful : (ts : List Table) → AllByRecursion IsLawfulTable ts → AreLawful (gathered ts)
 unfolding gathered
 gathered_lawful ts h =
-    record { each = all_tables _ (all_good ts h); rising = all_rise _ (fin.entries_sorted (grouped ts)) }
+    let es = fin.entries (grouped ts) in
+    record { each = all_tables _ (all_good ts h); rising = subst (IsStrictlySortedBy key_cmp) (sym (keys_of_tables es)) (keys_rise key_cmp es (fin.entries_sorted (grouped ts))) }
 
--- ---- small tables
+-- ---- fewer rows, and fewer tables
 
-alike : (rows : Rows) → AllByRecursion (HasKey []) rows
-alike [] = tt
-alike (r ∷ rows) = (tt, alike rows)
+-- a table without rows is lawful where the labels of its key rise
+pub bare_lawful : (key : Key) → HasRisingLabels key → IsLawfulTable (bare key)
+bare_lawful key rising = record { rising = rising; columns = tt }
 
--- a table without key entries is lawful
-pub bare_lawful : (t : Table) → t.key.entries ≡ [] → IsLawfulTable t
+-- as many rows as are wanted of those that have the key
+pub fewer_lawful : (t : Table) (rows : Rows) → IsLawfulTable t → AllByRecursion (HasKey t.key.entries) rows → IsLawfulTable (record { key = t.key; rows = rows })
+fewer_lawful t rows h columns = record { rising = h.rising; columns = columns }
+
+each_without : {X : Type 0} (P : X → Type 0) (xs ys : List X) (x : X) → AllByRecursion P (xs ++ x ∷ ys) → AllByRecursion P (xs ++ ys)
+each_without P [] ys x h = h.1
+each_without P (w ∷ xs) ys x h = (h.0, each_without P xs ys x h.1)
+
+each_with : {X : Type 0} (P : X → Type 0) (xs ys : List X) (x y : X) → (P x → P y) → AllByRecursion P (xs ++ x ∷ ys) → AllByRecursion P (xs ++ y ∷ ys)
+each_with P [] ys x y change h = (change h.0, h.1)
+each_with P (w ∷ xs) ys x y change h = (h.0, each_with P xs ys x y change h.1)
+
+each_at : {X : Type 0} (P : X → Type 0) (xs ys : List X) (x : X) → AllByRecursion P (xs ++ x ∷ ys) → P x
+each_at P [] ys x h = h.0
+each_at P (w ∷ xs) ys x h = each_at P xs ys x h.1
+
+abbrev keys : List Table → List Key
+keys = map (λ t. t.key)
+
+above_without : (k : Key) (ts us : List Table) (t : Table) → AllByRecursion (λ q. key_cmp k q ≡ Less) (keys (ts ++ t ∷ us)) → AllByRecursion (λ q. key_cmp k q ≡ Less) (keys (ts ++ us))
+above_without k [] us t h = h.1
+above_without k (s ∷ ts) us t h = (h.0, above_without k ts us t h.1)
+
+rising_without : (ts us : List Table) (t : Table) → IsStrictlySortedBy key_cmp (keys (ts ++ t ∷ us)) → IsStrictlySortedBy key_cmp (keys (ts ++ us))
 unfolding IsStrictlySortedBy
-bare_lawful t none =
-    let labels : IsStrictlySortedBy text_cmp (map (λ e. e.label) t.key.entries) = subst (λ (es : List KeyEntry). IsStrictlySortedBy text_cmp (map (λ e. e.label) es)) (sym none) tt in
-    record { rising = labels; columns = subst (λ (es : List KeyEntry). AllByRecursion (HasKey es) t.rows) (sym none) (alike t.rows) }
+rising_without [] us t h = h.1
+rising_without (s ∷ ts) us t h = (above_without s.key ts us t h.0, rising_without ts us t h.1)
 
--- so is one with a single entry and no rows
-pub single_lawful : (t : Table) (e : KeyEntry) → t.key.entries ≡ e ∷ [] → t.rows ≡ [] → IsLawfulTable t
-unfolding IsStrictlySortedBy
-single_lawful t e one none =
-    let labels : IsStrictlySortedBy text_cmp (map (λ d. d.label) t.key.entries) = subst (λ (es : List KeyEntry). IsStrictlySortedBy text_cmp (map (λ d. d.label) es)) (sym one) (tt, tt) in
-    record { rising = labels; columns = subst (AllByRecursion (HasKey t.key.entries)) (sym none) tt }
+-- lawful tables without one of them are lawful
+pub without_table : (ts us : List Table) (t : Table) → AreLawful (ts ++ t ∷ us) → AreLawful (ts ++ us)
+without_table ts us t h = record { each = each_without IsLawfulTable ts us t h.each; rising = rising_without ts us t h.rising }
+
+keys_with : (ts us : List Table) (t : Table) (rows : Rows) → keys (ts ++ t ∷ us) ≡ keys (ts ++ record { key = t.key; rows = rows } ∷ us)
+keys_with [] us t rows = refl
+keys_with (s ∷ ts) us t rows = ap (λ ks. s.key ∷ ks) (keys_with ts us t rows)
+
+-- lawful tables with other rows under one of the keys, which have that key, are lawful
+pub with_rows : (ts us : List Table) (t : Table) (rows : Rows) → AreLawful (ts ++ t ∷ us) → AllByRecursion (HasKey t.key.entries) rows
+    → AreLawful (ts ++ record { key = t.key; rows = rows } ∷ us)
+with_rows ts us t rows h columns = record {
+  each = each_with IsLawfulTable ts us t (record { key = t.key; rows = rows }) (λ lawful. fewer_lawful t rows lawful columns) h.each;
+  rising = subst (IsStrictlySortedBy key_cmp) (keys_with ts us t rows) h.rising;
+}
+
+-- the table among lawful ones
+pub lawful_at : (ts us : List Table) (t : Table) → AreLawful (ts ++ t ∷ us) → IsLawfulTable t
+lawful_at ts us t h = each_at IsLawfulTable ts us t h.each
+
+-- the tables before the last, and the last
+pub lawful_before : (old front : List Table) (last : Table) → old ≡ front ++ last ∷ [] → AllByRecursion IsLawfulTable old → AllByRecursion IsLawfulTable front
+lawful_before old front last is h =
+    subst (AllByRecursion IsLawfulTable) (append-nil front) (each_without IsLawfulTable front [] last (subst (AllByRecursion IsLawfulTable) is h))
+
+pub lawful_last : (old front : List Table) (last : Table) → old ≡ front ++ last ∷ [] → AllByRecursion IsLawfulTable old → IsLawfulTable last
+lawful_last old front last is h = each_at IsLawfulTable front [] last (subst (AllByRecursion IsLawfulTable) is h)

@@ -20,41 +20,32 @@ use Rattle.fx_value.specs.Source.{value_at}
 use Rattle.fx_value.proofs.Rows.{get-row_of}
 use Rattle.fx_data.specs.Shared.{column_entry, key_of}
 use Rattle.fx_data.specs.Table.{HasKey, IsLawfulTable}
-
-T_left : (a b : Bool) → T (a && b) → T a
-T_left true b h = tt
-T_left false b h = h
-
-T_right : (a b : Bool) → T (a && b) → T b
-T_right true b h = h
-T_right false b h = absurd h
-
-less : (o : Ordering) → T (is_lt o) → o ≡ Less
-less Less h = refl
-less Equal h = absurd h
-less Greater h = absurd h
+use Rattle.fx_data.proofs.Sorted.{keys_rise}
 
 -- the labels of the shared cells rise, as those of all cells do
-below_shared : (x : List ℕ) (es : List (List ℕ × Source)) → T (below_all text_cmp x es) → AllByRecursion (λ y. text_cmp x y ≡ Less) (map (λ e. e.label) (map column_entry (filter_map shared_cell es)))
+below_shared : (x : List ℕ) (es : List (List ℕ × Source)) → AllByRecursion (λ y. text_cmp x y ≡ Less) (map (λ e. e.0) es)
+    → AllByRecursion (λ y. text_cmp x y ≡ Less) (map (λ e. e.label) (map column_entry (filter_map shared_cell es)))
 below_shared x [] h = tt
-below_shared x ((label, Fixed value) ∷ es) h = (less (text_cmp x label) (T_left (is_lt (text_cmp x label)) (below_all text_cmp x es) h), below_shared x es (T_right (is_lt (text_cmp x label)) (below_all text_cmp x es) h))
-below_shared x ((label, First) ∷ es) h = below_shared x es (T_right (is_lt (text_cmp x label)) (below_all text_cmp x es) h)
-below_shared x ((label, Second) ∷ es) h = below_shared x es (T_right (is_lt (text_cmp x label)) (below_all text_cmp x es) h)
+below_shared x ((label, Fixed value) ∷ es) h = (h.0, below_shared x es h.1)
+below_shared x ((label, First) ∷ es) h = below_shared x es h.1
+below_shared x ((label, Second) ∷ es) h = below_shared x es h.1
 
-rising_shared : (es : List (List ℕ × Source)) → T (is_sorted text_cmp es) → IsStrictlySortedBy text_cmp (map (λ e. e.label) (map column_entry (filter_map shared_cell es)))
+rising_shared : (es : List (List ℕ × Source)) → IsStrictlySortedBy text_cmp (map (λ e. e.0) es)
+    → IsStrictlySortedBy text_cmp (map (λ e. e.label) (map column_entry (filter_map shared_cell es)))
 unfolding IsStrictlySortedBy
 rising_shared [] h = tt
-rising_shared ((label, Fixed value) ∷ es) h = (below_shared label es (T_left (below_all text_cmp label es) (is_sorted text_cmp es) h), rising_shared es (T_right (below_all text_cmp label es) (is_sorted text_cmp es) h))
-rising_shared ((label, First) ∷ es) h = rising_shared es (T_right (below_all text_cmp label es) (is_sorted text_cmp es) h)
-rising_shared ((label, Second) ∷ es) h = rising_shared es (T_right (below_all text_cmp label es) (is_sorted text_cmp es) h)
+rising_shared ((label, Fixed value) ∷ es) h = (below_shared label es h.0, rising_shared es h.1)
+rising_shared ((label, First) ∷ es) h = rising_shared es h.1
+rising_shared ((label, Second) ∷ es) h = rising_shared es h.1
 
 -- each cell is found under its label
-still_found : (e : List ℕ × Source) (ds es : List (List ℕ × Source)) → T (below_all text_cmp e.0 ds) → AllByRecursion (λ d. find text_cmp d.0 es ≡ Some d.1) ds → AllByRecursion (λ d. find text_cmp d.0 (e ∷ es) ≡ Some d.1) ds
+still_found : (e : List ℕ × Source) (ds es : List (List ℕ × Source)) → AllByRecursion (λ y. text_cmp e.0 y ≡ Less) (map (λ d. d.0) ds)
+    → AllByRecursion (λ d. find text_cmp d.0 es ≡ Some d.1) ds → AllByRecursion (λ d. find text_cmp d.0 (e ∷ es) ≡ Some d.1) ds
 still_found e [] es below h = tt
 still_found e (d ∷ ds) es below h =
-    let lt : text_cmp e.0 d.0 ≡ Less = less (text_cmp e.0 d.0) (T_left (is_lt (text_cmp e.0 d.0)) (below_all text_cmp e.0 ds) below) in
+    let lt : text_cmp e.0 d.0 ≡ Less = below.0 in
     let other : eq_by_cmp text_cmp d.0 e.0 ≡ false = rw (nat_list_cmp_total.antisymm d.0 e.0, lt) refl in
-    (rw other h.0, still_found e ds es (T_right (is_lt (text_cmp e.0 d.0)) (below_all text_cmp e.0 ds) below) h.1)
+    (rw other h.0, still_found e ds es below.1 h.1)
 
 tied : (o : Ordering) → o ≡ ordering_reverse o → o ≡ Equal
 tied Less h = cc
@@ -64,10 +55,13 @@ tied Greater h = cc
 same_tie : (x : List ℕ) → eq_by_cmp text_cmp x x ≡ true
 same_tie x = rw (tied (text_cmp x x) (nat_list_cmp_total.antisymm x x)) refl
 
-all_found : (es : List (List ℕ × Source)) → T (is_sorted text_cmp es) → AllByRecursion (λ d. find text_cmp d.0 es ≡ Some d.1) es
+all_found : (es : List (List ℕ × Source)) → IsStrictlySortedBy text_cmp (map (λ e. e.0) es) → AllByRecursion (λ d. find text_cmp d.0 es ≡ Some d.1) es
+unfolding IsStrictlySortedBy
 all_found [] h = tt
-all_found (e ∷ es) h =
-    (rw (same_tie e.0) refl, still_found e es es (T_left (below_all text_cmp e.0 es) (is_sorted text_cmp es) h) (all_found es (T_right (below_all text_cmp e.0 es) (is_sorted text_cmp es) h)))
+all_found (e ∷ es) h = (rw (same_tie e.0) refl, still_found e es es h.0 (all_found es h.1))
+
+labels_rise : (head : FinMap text_cmp Source) → IsStrictlySortedBy text_cmp (map (λ e. e.0) (fin.entries head))
+labels_rise head = keys_rise text_cmp (fin.entries head) (fin.entries_sorted head)
 
 -- a row of the head has the shared values
 has_shared : (head : FinMap text_cmp Source) (a b : Scalar) (es : List (List ℕ × Source)) → AllByRecursion (λ d. fin.get head d.0 ≡ Some d.1) es → HasKey (map column_entry (filter_map shared_cell es)) (row_of head a b)
@@ -82,11 +76,11 @@ get_found head (e ∷ es) h = (fin.get-entries head e.0 ∙ h.0, get_found head 
 
 rows_have : {V : Type 0} (head : FinMap text_cmp Source) (first second : V → Scalar) (own : List V) → AllByRecursion (HasKey (key_of head).entries) (map (λ v. row_of head (first v) (second v)) own)
 rows_have head first second [] = tt
-rows_have head first second (v ∷ own) = (has_shared head (first v) (second v) (fin.entries head) (get_found head (fin.entries head) (all_found (fin.entries head) (fin.entries_sorted head))), rows_have head first second own)
+rows_have head first second (v ∷ own) = (has_shared head (first v) (second v) (fin.entries head) (get_found head (fin.entries head) (all_found (fin.entries head) (labels_rise head))), rows_have head first second own)
 
 -- rows of a head, each with two values of its own, are a lawful table under the key of what they share
 pub shared_is_lawful : {V : Type 0} (head : FinMap text_cmp Source) (first second : V → Scalar) (own : List V) → IsLawfulTable (record { key = key_of head; rows = map (λ v. row_of head (first v) (second v)) own })
 shared_is_lawful head first second own = record {
-  rising = rising_shared (fin.entries head) (fin.entries_sorted head);
+  rising = rising_shared (fin.entries head) (labels_rise head);
   columns = rows_have head first second own;
 }

@@ -5,6 +5,7 @@ use Rattle.std.specs.List.Sorted.{IsStrictlySortedBy}
 use Rattle.std.specs.FinMap.{FinMap, get}
 use Rattle.fx_base.specs.Text.{text_cmp}
 use Rattle.fx_value.specs.declared.scalar.Scalar.{Scalar}
+use Rattle.fx_data.specs.declared.key.Key.{Key}
 use Rattle.fx_data.specs.declared.key.KeyEntry.{KeyEntry}
 use Rattle.fx_data.specs.declared.table.Table.{Table}
 use Rattle.fx_data.specs.Key.{key_cmp}
@@ -17,9 +18,13 @@ shown e = if e.pinned then None else Some e.value
 abbrev pub HasKey : List KeyEntry → FinMap text_cmp Scalar → Type 0
 HasKey entries row = AllByRecursion (λ e. get row e.label ≡ shown e) entries
 
+-- the labels of the key rise strictly by bytes
+abbrev pub HasRisingLabels : Key → Type 0
+HasRisingLabels key = IsStrictlySortedBy text_cmp (map (λ e. e.label) key.entries)
+
 -- the labels of the key rise strictly by bytes, and each row has at each of them what the key says
 pub record IsLawfulTable (t : Table) : Type 0 where
-  pub rising : IsStrictlySortedBy text_cmp (map (λ e. e.label) t.key.entries)
+  pub rising : HasRisingLabels t.key
   pub columns : AllByRecursion (HasKey t.key.entries) t.rows
 
 -- each table is lawful, and the keys rise strictly

@@ -9,6 +9,7 @@ ghost use Rattle.fx_data.specs.Table.{IsLawfulTable};
 ghost use Rattle.fx_data.specs.declared.key.Key.{Key as AnyKey};
 
 use crate::key::Key;
+use crate::order::are_rising;
 use crate::table::Table;
 use crate::tables::Tables;
 use fx_base::{List, Memory};
@@ -59,13 +60,24 @@ fn groups_of(alloc: Global, tables: List<Table>) -> Result<BTreeMap<Key, List<Ro
     Ok(groups)
 }
 
-/// The tables in the order of their keys. Tables with one key become one, whose rows are theirs, in
-/// order.
-pub fn gather(alloc: Global, tables: List<Table>) -> Result<Tables, Memory>
+/// The tables by way of a tree of their keys.
+fn sorted(alloc: Global, tables: List<Table>) -> Result<Tables, Memory>
     requires { AllByRecursion IsLawfulTable tables }
     ensures { IfOk result (λ t. t ≡ gathered tables) }
 {
     let groups = groups_of(alloc, tables)?;
     let items = listed(alloc, groups)?;
     Ok(Tables { items })
+}
+
+/// The tables in the order of their keys. Tables with one key become one, whose rows are theirs, in
+/// order. Tables whose keys rise are handed on as they are.
+pub fn collect(alloc: Global, tables: List<Table>) -> Result<Tables, Memory>
+    requires { AllByRecursion IsLawfulTable tables }
+    ensures { IfOk result (λ t. t ≡ gathered tables) }
+{
+    if are_rising(tables.as_slice()) {
+        return Ok(Tables::of(tables));
+    }
+    sorted(alloc, tables)
 }

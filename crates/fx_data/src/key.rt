@@ -1,7 +1,8 @@
-ghost use Rattle.std.specs.Prelude.{◌≡◌, IfOk};
+ghost use Rattle.std.specs.Prelude.{◌≡◌, ◌↔◌, false, IfOk, IsTrue};
 ghost use Rattle.std.specs.Cmp.{IsTotalOrder};
 ghost use Rattle.std.specs.FinMap.{IsAntisymmetric};
 ghost use Rattle.fx_data.specs.Key.{key_cmp};
+ghost use Rattle.fx_data.specs.declared.key.KeyEntry.{KeyEntry as AnyKeyEntry};
 
 use fx_base::{List, Memory, Text};
 use fx_value::Scalar;
@@ -32,6 +33,20 @@ impl KeyEntry {
             value: self.value.copy()?,
             pinned: self.pinned,
         })
+    }
+
+    /// Whether this is the entry of a column with this label and value; false says nothing.
+    pub(crate) fn is_column(&self, label: &Text, value: &Scalar) -> bool
+        ensures { IsTrue result → ◌≡◌ {A = AnyKeyEntry} self.now (record { label = label.now; value = value.now; pinned = false }) }
+    {
+        !self.pinned && self.label == *label && self.value.is_same(value)
+    }
+
+    /// Whether the entries are the same; false says nothing.
+    pub(crate) fn is_same(&self, other: &KeyEntry) -> bool
+        ensures { IsTrue result → self.now ≡ other.now }
+    {
+        self.pinned == other.pinned && self.label == other.label && self.value.is_same(&other.value)
     }
 }
 

@@ -1,9 +1,9 @@
-ghost use Rattle.std.specs.Prelude.{◌≡◌, [], length, slice_get};
+ghost use Rattle.std.specs.Prelude.{◌≡◌, [], IfOk, length, slice_get};
 ghost use Rattle.std.specs.Option.{option_map};
 ghost use Rattle.fx_data.specs.Table.{AreLawful};
 
 use crate::table::Table;
-use fx_base::List;
+use fx_base::{List, Memory};
 use std::alloc::Global;
 use std::marker::Model;
 
@@ -47,6 +47,14 @@ impl Tables {
         Tables { items }
     }
 
+    /// Other tables that are the same. Their rows share what the rows share.
+    pub fn copy(&self, alloc: Global) -> Result<Tables, Memory>
+        ensures { IfOk result (λ t. t ≡ self.now) }
+    {
+        let items = copies_of(alloc, &self.items)?;
+        Ok(Tables { items })
+    }
+
     pub fn len(&self) -> u64
         ensures { result ≡ length self.now }
     {
@@ -74,4 +82,15 @@ impl Tables {
         let Tables { items } = self;
         items
     }
+}
+
+fn copies_of(alloc: Global, tables: &List<Table>) -> Result<List<Table>, Memory>
+    ensures { IfOk result (λ ts. ts ≡ tables.now) }
+{
+    let tables = tables.as_slice();
+    let mut copies = Vec::with_capacity(alloc, tables.len())?;
+    for table in tables {
+        copies.push(table.copy(alloc)?)?;
+    }
+    Ok(List::of(copies))
 }

@@ -4,7 +4,7 @@ use Rattle.std.specs.Prelude.{◌==◌, ◌&&◌, ◌||◌}
 use Rattle.std.specs.List.{list_any, AllByRecursion}
 use Rattle.std.proofs.lemmas.Bool.{eqb-true, eq-eqb}
 use Rattle.fx_base.specs.Patterns.{SameTests}
-use Rattle.fx_value.specs.Calls.{AreGiven, heard}
+use Rattle.fx_value.specs.Calls.{AreGiven, heard, SamePatterns}
 
 given_below : (bound number : ℕ) (numbers : List ℕ) → AllByRecursion (λ n. n < bound) numbers → list_any (λ n. n == number) numbers ≡ true → number < bound
 given_below bound number [] given is = cc
@@ -33,3 +33,15 @@ module _ (built : List (List ℕ)) (before after : ℕ → List ℕ → Bool) (s
 -- of the one number all is heard
 pub heard_alone : (number : ℕ) (test : ℕ → List ℕ → Bool) → heard (number ∷ []) test number ≡ test number
 heard_alone number test = λ i text. (eq-eqb number number refl i || false) && test number text
+
+-- patterns that two calls one after the other leave as they were are as they were
+pub same_patterns_on : {P : Type 0} (built : P → List (List ℕ)) (refusals : P → ℕ) (test : P → ℕ → List ℕ → Bool) (before now after : P)
+    → SamePatterns built refusals test before now → SamePatterns built refusals test now after → SamePatterns built refusals test before after
+same_patterns_on built refusals test before now after first then = record {
+  built = then.built ∙ first.built;
+  refusals = then.refusals ∙ first.refusals;
+  tests = tests_stay (built before) (test before) (test now) first.tests (built now) (test after) first.built then.tests;
+}
+
+pub same_patterns_none : {P : Type 0} (built : P → List (List ℕ)) (refusals : P → ℕ) (test : P → ℕ → List ℕ → Bool) (patterns : P) → SamePatterns built refusals test patterns patterns
+same_patterns_none built refusals test patterns = record { built = refl; refusals = refl; tests = λ number below text. refl }

@@ -1,5 +1,5 @@
 -- A head as the map of its slots.
-use Rattle.std.proofs.Common.{◌≡◌, ℕ, Bool, true, false, T, List, [], ◌∷◌, map, length, get_or, take, ◌+◌, ◌<◌, ◌++◌, filter_map, refl, sym, ap, subst, ◌∙◌}
+use Rattle.std.proofs.Common.{◌≡◌, ℕ, Bool, true, false, T, List, [], ◌∷◌, map, length, get_or, take, drop, suc, ◌+◌, ◌<◌, ◌++◌, filter_map, refl, sym, ap, subst, ◌∙◌, arith, drop-cons}
 use Rattle.std.specs.Prelude.{cond, ◌&&◌, ◌||◌, not, Option, None, Some, IsTrue, ◌↔◌}
 use Rattle.std.specs.Cmp.Lexicographic.{texts_ties, pointwise, pointwise_decides, bytes_decides, nat_list_cmp_total}
 use Rattle.std.specs.Ordering.{eq_by_cmp, is_eq}
@@ -10,14 +10,12 @@ use Rattle.std.specs.FinMap.Entries.{find, find-where_key, put, where_key, is_so
 use Rattle.fx_base.specs.Text.{text_cmp, same_text}
 use Rattle.fx_value.specs.Row.{IsOnly}
 use Rattle.fx_value.proofs.Rows.{text_same}
-use Rattle.fx_value.specs.Place.{StandsAt, BelongsAt}
-use Rattle.std.proofs.lemmas.List.{take_more, map-append}
+use Rattle.std.proofs.lemmas.List.{get_or_default, take_more, map-append}
 use Rattle.std.proofs.lemmas.List.Elements.{filter_map-append}
 use Rattle.fx_value.specs.Row.{shared_cell, shared}
-use Rattle.fx_value.specs.Slots.{entry_of, entries_of, labels_of, is_alone, others, IsRising}
+use Rattle.fx_value.specs.Slots.{entry_of, entries_of, labels_of, is_alone, others, IsRising, IsFoundAt}
 use Rattle.fx_value.specs.declared.slot.Slot.{Slot}
 use Rattle.fx_value.specs.declared.source.Source.{Source}
-use Rattle.fx_value.proofs.Place.{find-at, find-in}
 
 -- no slots are the empty map
 pub no_slots : (cs : List Slot) → cs ≡ [] → fin.from_sorted {R = text_cmp} (entries_of cs) ≡ fin.empty
@@ -44,17 +42,9 @@ module _ (cs : List Slot) (head : FinMap text_cmp Source) (view : fin.from_sorte
   pub shared_are : filter_map shared_cell (entries_of cs) ≡ shared head
   shared_are = ap (filter_map shared_cell) (sym (fin.entries-from_sorted text_cmp (entries_of cs) rising) ∙ ap fin.entries view)
 
-  -- the source in the slot at the place of a label is what the head answers
-  pub get_at : (k : List ℕ) (i : ℕ) (s : Slot) → StandsAt text_cmp k (entries_of cs) i → s ≡ get_or cs i s → Some s.source ≡ fin.get head k
-  get_at k i s at is =
-      ap (λ (c : Slot). Some c.source) is ∙ sym (find-at text_cmp entry_of k cs i s at)
-      ∙ sym (fin.get-from_sorted text_cmp (entries_of cs) k rising) ∙ ap (λ m. fin.get m k) view
-
-  -- a label without a place isn't in the head
-  pub get_in : (k : List ℕ) (i : ℕ) → BelongsAt text_cmp k (entries_of cs) i → None ≡ fin.get head k
-  get_in k i at =
-      sym (find-in text_cmp nat_list_cmp_total k (entries_of cs) i rising at)
-      ∙ sym (fin.get-from_sorted text_cmp (entries_of cs) k rising) ∙ ap (λ m. fin.get m k) view
+  -- what the slots have at a label is what the head answers
+  pub get_found : (k : List ℕ) (o : Option Source) → find text_cmp k (entries_of cs) ≡ o → o ≡ fin.get head k
+  get_found k o is = sym is ∙ sym (fin.get-from_sorted text_cmp (entries_of cs) k rising) ∙ ap (λ m. fin.get m k) view
 
   module _ (ds : List Slot) (k : List ℕ) (s : Source) (made : entries_of ds ≡ put text_cmp k s (entries_of cs)) where
     pub still_rising : IsRising (entries_of ds)
@@ -143,3 +133,23 @@ module _ (cs : List Slot) (head : FinMap text_cmp Source) (view : fin.from_sorte
 -- one slot more
 pub shared_more : (cs : List Slot) (i : ℕ) (s : Slot) → i < length cs → s ≡ get_or cs i s → filter_map shared_cell (entries_of (take i cs)) ++ filter_map shared_cell (entry_of s ∷ []) ≡ filter_map shared_cell (entries_of (take (i + 1) cs))
 shared_more cs i s below is = rw (take_more cs i s below, ← is, map-append, filter_map-append) refl
+
+-- ---- the place of a label
+
+-- the slot at a place has the label
+pub found_here : (cs : List Slot) (k : List ℕ) (i : ℕ) (c : Slot) → i < length cs → c ≡ get_or cs i c → same_text c.label k ≡ true
+    → find text_cmp k (entries_of cs) ≡ find text_cmp k (entries_of (drop i cs)) → IsFoundAt cs k i
+found_here cs k i c within is same ahead = record {
+  within = within;
+  source = λ d.
+      ahead ∙ ap (λ ds. find text_cmp k (entries_of ds)) (drop-cons cs i d within)
+      ∙ ap (λ b. cond b (Some (get_or cs i d).source) (find text_cmp k (entries_of (drop (suc i) cs)))) (sym (same_by_cmp (get_or cs i d).label k) ∙ ap (λ (s : Slot). same_text s.label k) (get_or_default cs i d c within ∙ sym is) ∙ same);
+}
+
+-- the slot at a place has another label
+pub found_later : (cs : List Slot) (k : List ℕ) (i : ℕ) (c : Slot) → i < length cs → c ≡ get_or cs i c → same_text c.label k ≡ false
+    → find text_cmp k (entries_of cs) ≡ find text_cmp k (entries_of (drop i cs)) → find text_cmp k (entries_of cs) ≡ find text_cmp k (entries_of (drop (i + 1) cs))
+found_later cs k i c within is other ahead =
+    ahead ∙ ap (λ ds. find text_cmp k (entries_of ds)) (drop-cons cs i c within)
+    ∙ ap (λ b. cond b (Some (get_or cs i c).source) (find text_cmp k (entries_of (drop (suc i) cs)))) (sym (same_by_cmp (get_or cs i c).label k) ∙ ap (λ (s : Slot). same_text s.label k) (sym is) ∙ other)
+    ∙ (let next : suc i ≡ i + 1 = omega arith in ap (λ n. find text_cmp k (entries_of (drop n cs))) next)

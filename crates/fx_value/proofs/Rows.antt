@@ -1,5 +1,6 @@
 -- What a row of a head answers: a map over the values of the head's map.
-use Rattle.std.proofs.Common.{◌≡◌, ℕ, Bool, true, false, T, List, [], ◌∷◌, map, refl, sym, ap, subst, ◌∙◌}
+use Rattle.std.proofs.Common.{◌≡◌, ℕ, ◌+◌, ◌<◌, Bool, true, false, T, List, [], ◌∷◌, ◌++◌, map, length, get_or, take, refl, sym, ap, subst, ◌∙◌}
+use Rattle.std.proofs.lemmas.List.{take_more}
 use Rattle.std.specs.Prelude.{◌&&◌, cond, Option, None, Some}
 use Rattle.std.specs.Option.{option_map}
 use Rattle.std.specs.Ordering.{is_lt, eq_by_cmp}
@@ -11,7 +12,7 @@ use Rattle.std.specs.FinMap.Entries.{find, is_sorted, below_all}
 use Rattle.fx_base.specs.Text.{text_cmp}
 use Rattle.fx_value.specs.Row.{filled, row_of, IsOnly}
 use Rattle.fx_value.specs.Source.{value_at}
-use Rattle.fx_value.specs.Change.{changed, changed_head}
+use Rattle.fx_value.specs.Change.{changed, all_changed, changed_head, all_changed_head}
 use Rattle.fx_value.specs.declared.change.Change.{Change}
 use Rattle.fx_value.specs.declared.change.Change.TheVariants.{Set, Remove}
 use Rattle.fx_value.specs.declared.scalar.Scalar.{Scalar}
@@ -110,10 +111,17 @@ module _ (a b : Scalar) where
       ∙ sym (fin.get-remove nat_list_cmp_total (row_of h a b) k q))
 
   -- to change the head is to change the row
-  pub row_changed : (change : Change) (h g : FinMap text_cmp Source) (m : FinMap text_cmp Scalar) → row_of h a b ≡ m
+  row_changed : (change : Change) (h g : FinMap text_cmp Source) (m : FinMap text_cmp Scalar) → row_of h a b ≡ m
       → g ≡ changed_head change h → row_of g a b ≡ changed change m
   row_changed (Set label value) h g m view is = row_with h g m label (Fixed value) view is
   row_changed (Remove label) h g m view is = ap (λ x. row_of x a b) is ∙ row_of-remove h label ∙ ap (λ n. fin.remove n label) view
+
+  -- so is to change the head more than once
+  pub row_all_changed : (changes : List Change) (h g : FinMap text_cmp Source) (m : FinMap text_cmp Scalar) → row_of h a b ≡ m
+      → g ≡ all_changed_head changes h → row_of g a b ≡ all_changed changes m
+  row_all_changed [] h g m view is = ap (λ x. row_of x a b) is ∙ view
+  row_all_changed (change ∷ changes) h g m view is =
+      row_all_changed changes (changed_head change h) g (changed change m) (row_changed change h (changed_head change h) m view refl) is
 
   -- the labels of a row are its head's
   pub labels_are : (h : FinMap text_cmp Source) (m : FinMap text_cmp Scalar) → row_of h a b ≡ m → fin.keys h ≡ fin.keys m
@@ -169,3 +177,14 @@ nothing_removed m k lacks =
     fin.same_map nat_list_cmp_total text_same _ _ (λ q.
     chosen_none (eq_by_cmp text_cmp q k) (fin.get m q) (λ t. lacks ∙ ap (fin.get m) (sym (text_same q k ((Equal-is _).0 t))))
     ∙ sym (fin.get-remove nat_list_cmp_total m k q))
+
+changed-append : (changes : List Change) (change : Change) (h : FinMap text_cmp Source) → all_changed_head (changes ++ change ∷ []) h ≡ changed_head change (all_changed_head changes h)
+changed-append [] change h = refl
+changed-append (c ∷ changes) change h = changed-append changes change (changed_head c h)
+
+-- one change more
+pub changed_more : (changes : List Change) (i : ℕ) (change : Change) (h : FinMap text_cmp Source) → i < length changes → change ≡ get_or changes i change
+    → changed_head change (all_changed_head (take i changes) h) ≡ all_changed_head (take (i + 1) changes) h
+changed_more changes i change h within is =
+    sym (changed-append (take i changes) change h)
+    ∙ ap (λ cs. all_changed_head cs h) (ap (λ (c : Change). take i changes ++ c ∷ []) is ∙ sym (take_more changes i change within))

@@ -1,10 +1,11 @@
--- What calls that spend ticks answer.
+-- What calls that do work answer, with and without a meter, and how they leave patterns.
 use Rattle.std.specs.Prelude.{◌≡◌, ℕ, ◌+◌, ◌-◌, ◌^◌, ◌<◌, ◌≤◌, Bool, ◌==◌, ◌&&◌, List, length, Result, Ok, Err}
 use Rattle.std.specs.List.{list_any, AllByRecursion}
 use Rattle.fx_base.specs.declared.fault.Fault.{Fault}
 use Rattle.fx_base.specs.declared.halt.Halt.{Halt}
 use Rattle.fx_base.specs.declared.halt.Halt.TheVariants as halt
 use Rattle.fx_base.specs.declared.meter.Meter.{Meter}
+use Rattle.fx_base.specs.Patterns.{SameTests}
 use Rattle.fx_value.specs.Ends.{End, Gives, Faults}
 
 -- at most the budget is spent, and the budget is below the greatest u64
@@ -38,6 +39,13 @@ Answers work before after (Err (halt.Fault fault)) = Ended work (Faults fault) b
 Answers work before after (Err (halt.Budget sum)) = Exceeded work before sum
 Answers work before after (Err halt.Memory) = Unit {0}
 
+-- the answer of a call whose work takes no ticks
+abbrev pub Told : {A : Type 0} → End A → Result A Halt → Type 0
+Told end (Ok value) = end ≡ Gives value 0
+Told end (Err (halt.Fault fault)) = end ≡ Faults fault 0
+Told end (Err (halt.Budget sum)) = ⊥
+Told end (Err halt.Memory) = Unit {0}
+
 -- what the tests of patterns say at these numbers, and false at any other
 abbrev pub heard : List ℕ → (ℕ → List ℕ → Bool) → ℕ → List ℕ → Bool
 heard numbers test number text = list_any (λ n. n == number) numbers && test number text
@@ -45,3 +53,9 @@ heard numbers test number text = list_any (λ n. n == number) numbers && test nu
 -- the numbers are among those that were given for the built patterns
 abbrev pub AreGiven : List ℕ → List (List ℕ) → Type 0
 AreGiven numbers built = AllByRecursion (λ number. number < length built) numbers
+
+-- the list of built patterns, the count of refusals and the test at each given number are as they were
+pub record SamePatterns {P : Type 0} (built_by : P → List (List ℕ)) (refusals_of : P → ℕ) (test_of : P → ℕ → List ℕ → Bool) (before after : P) : Type 0 where
+  pub built : built_by after ≡ built_by before
+  pub refusals : refusals_of after ≡ refusals_of before
+  pub tests : SameTests (built_by before) (test_of before) (test_of after)

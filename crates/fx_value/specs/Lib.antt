@@ -1,9 +1,11 @@
 pub mod Calls
 pub mod Change
 pub mod Ends
+pub mod KeyTest
 pub mod Own
 pub mod Place
 pub mod Row
 pub mod Scalar
 pub mod Slots
 pub mod Source
+pub mod Works

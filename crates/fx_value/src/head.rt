@@ -6,7 +6,7 @@ ghost use Rattle.fx_value.specs.Row.{IsOnly, shared};
 
 use crate::scalar::Scalar;
 use crate::slot::{
-    Slot, are_same, have_same_labels, is_first_alone, is_second_alone, labels_in, place_of,
+    Slot, are_same, have_same_labels, index_of, is_first_alone, is_second_alone, labels_in,
     shared_in, with_source, without_label,
 };
 use crate::source::Source;
@@ -60,9 +60,9 @@ impl Head {
     pub fn get(&self, label: &Text) -> Option<&Source>
         ensures { option_map (λ s. s.now) result ≡ map.get self.now label.now }
     {
-        match place_of(&self.slots, label) {
-            Ok(i) => Some(&self.slots[i].source),
-            Err(_) => None,
+        match index_of(&self.slots, label) {
+            Some(i) => Some(&self.slots[i].source),
+            None => None,
         }
     }
 

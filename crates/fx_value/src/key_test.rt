@@ -1,7 +1,11 @@
 ghost use Rattle.std.specs.Prelude.{◌≡◌, IfOk};
+ghost use Rattle.std.specs.Option.{option_map};
+ghost use Rattle.fx_value.specs.KeyTest.{holds_of, told_of};
 
+use crate::scalar::Scalar;
 use fx_base::{List, Memory, Text};
 use std::alloc::Global;
+use std::cmp::Ordering;
 
 /// How two values are compared.
 #[derive(Clone, Copy, Debug, PartialEq, Eq)]
@@ -14,6 +18,22 @@ pub enum Test {
     Ge,
 }
 
+impl Test {
+    /// Whether the test holds where the left value stands so to the right one.
+    pub fn holds(self, order: Ordering) -> bool
+        ensures { result ≡ holds_of self order }
+    {
+        match self {
+            Test::Eq => order.is_eq(),
+            Test::Ne => order.is_ne(),
+            Test::Lt => order.is_lt(),
+            Test::Le => order.is_le(),
+            Test::Gt => order.is_gt(),
+            Test::Ge => order.is_ge(),
+        }
+    }
+}
+
 /// A comparison of the value at a label, on the left, with a text.
 #[derive(Debug, Drop)]
 pub struct KeyTest {
@@ -23,6 +43,17 @@ pub struct KeyTest {
 }
 
 impl KeyTest {
+    /// What the test says of the value at its label: null where that is null, isn't there or is no
+    /// text.
+    pub fn tell(&self, value: Option<&Scalar>) -> Option<bool>
+        ensures { result ≡ told_of self.now (option_map (λ v. v.now) value.entry) }
+    {
+        match value {
+            Some(Scalar::Text(text)) => Some(self.test.holds(text.cmp(&self.text))),
+            _ => None,
+        }
+    }
+
     pub fn copy(&self) -> Result<KeyTest, Memory>
         ensures { IfOk result (λ t. t ≡ self.now) }
     {

@@ -1,10 +1,10 @@
 ghost use Rattle.std.specs.Prelude.{◌≡◌, ◌↔◌, IfOk, IfSome, OnOk, OnErr, IsTrue};
 ghost use Rattle.std.specs.Option.{option_map};
 ghost use Rattle.std.specs.FinMap as map;
-ghost use Rattle.fx_value.specs.Change.{changed, IsReshape};
+ghost use Rattle.fx_value.specs.Change.{all_changed, IsReshape};
 ghost use Rattle.fx_value.specs.Row.{row_of};
 
-use crate::change::{Change, Reshape};
+use crate::change::{Change, Reshape, reshaped};
 use crate::head::{Head, OwnPlace};
 use crate::scalar::Scalar;
 use crate::shape::Shape;
@@ -132,18 +132,18 @@ impl Row {
         Ok(())
     }
 
-    /// Makes the change; rows whose heads are the same as the last one's share what it became.
+    /// Makes the changes; rows whose heads are the same as the last one's share what it became.
     pub(crate) fn change(
         &mut self,
         alloc: Global,
-        change: &Change,
+        changes: &[Change],
         last: Option<Reshape>,
     ) -> Result<Reshape, Memory>
-        requires { IfSome last (IsReshape change.now) }
-        ensures row { OnOk result (self.new ≡ changed change.now self.old) }
-        ensures known { IfOk result (IsReshape change.now) }
+        requires { IfSome last (IsReshape changes.now) }
+        ensures row { OnOk result (self.new ≡ all_changed changes.now self.old) }
+        ensures known { IfOk result (IsReshape changes.now) }
     {
-        let known = change.reshape(alloc, &self.head, last)?;
+        let known = reshaped(alloc, changes, &self.head, last)?;
         self.head = known.to.clone()?;
         Ok(known)
     }

@@ -1,4 +1,4 @@
-ghost use Rattle.std.specs.Prelude.{◌≡◌, IfOk};
+ghost use Rattle.std.specs.Prelude.{◌≡◌, ◌↔◌, IfOk, IsTrue};
 ghost use Rattle.std.specs.Cmp.{IsTotalOrder};
 ghost use Rattle.std.specs.FinMap.{IsAntisymmetric};
 ghost use Rattle.fx_value.specs.Scalar.{scalar_cmp, kind_of};
@@ -50,6 +50,13 @@ impl Scalar {
             Scalar::Text(t) => Ok(Scalar::Text(t.copy()?)),
             Scalar::Time(t) => Ok(Scalar::Time(*t)),
         }
+    }
+
+    /// Whether the scalars are the same.
+    pub fn is_same(&self, other: &Scalar) -> bool
+        ensures { IsTrue result ↔ (self.now ≡ other.now) }
+    {
+        scalar_order(self, other).is_eq()
     }
 }
 

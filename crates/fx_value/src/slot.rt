@@ -1,13 +1,13 @@
-ghost use Rattle.std.specs.Prelude.{◌≡◌, [], ◌∷◌, ◌++◌, IfOk, OnOk, IsTrue, MatchResult};
+ghost use Rattle.std.specs.Prelude.{◌≡◌, [], ◌∷◌, ◌++◌, IfOk, OnOk, IsTrue, MatchOption, MatchResult, None};
 ghost use Rattle.std.specs.Cmp.Lexicographic.{pointwise};
 ghost use Rattle.fx_base.specs.Text.{same_text};
-ghost use Rattle.std.specs.FinMap.Entries.{put};
+ghost use Rattle.std.specs.FinMap.Entries.{find, put};
 ghost use Rattle.fx_base.specs.Text.{text_cmp};
 ghost use Rattle.std.specs.List.{filter_map};
 ghost use Rattle.fx_value.specs.Row.{shared_cell};
 ghost use Rattle.fx_value.specs.Place.{StandsAt, BelongsAt};
 ghost use Rattle.fx_value.specs.Source.{is_first, is_second};
-ghost use Rattle.fx_value.specs.Slots.{entry_of, entries_of, labels_of, is_alone, others};
+ghost use Rattle.fx_value.specs.Slots.{entry_of, entries_of, labels_of, is_alone, others, IsFoundAt};
 
 use crate::scalar::Scalar;
 use crate::source::Source;
@@ -70,6 +70,19 @@ pub fn place_of(slots: &Vec<Slot>, label: &Text) -> Result<usize, usize>
         }
     }
     Err(slots.len())
+}
+
+/// Where the label stands among the slots, or None where it doesn't. Labels of other lengths are
+/// told apart without a look at their bytes.
+pub fn index_of(slots: &Vec<Slot>, label: &Text) -> Option<usize>
+    ensures { MatchOption result (find text_cmp label.now (entries_of slots.now.items) ≡ None) (IsFoundAt slots.now.items label.now) }
+{
+    for (i, slot) in slots.iter().enumerate() {
+        if slot.label == *label {
+            return Some(i);
+        }
+    }
+    None
 }
 
 /// The same slots, with room for one more. Their texts are shared.

@@ -1,7 +1,7 @@
 ghost use Rattle.std.specs.Prelude.{◌≡◌, IfOk, IsTrue};
 ghost use Rattle.fx_value.specs.Source.{is_first, is_second};
 
-use crate::scalar::{Scalar, scalar_order};
+use crate::scalar::Scalar;
 use fx_base::Memory;
 
 /// Where rows that share their labels find the value of a label.
@@ -42,7 +42,7 @@ impl Source {
         ensures { IsTrue result → self.now ≡ other.now }
     {
         match (self, other) {
-            (Source::Fixed(a), Source::Fixed(b)) => scalar_order(a, b).is_eq(),
+            (Source::Fixed(a), Source::Fixed(b)) => a.is_same(b),
             (Source::First, Source::First) => true,
             (Source::Second, Source::Second) => true,
             _ => false,

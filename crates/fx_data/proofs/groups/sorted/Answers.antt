@@ -2,7 +2,7 @@ use Rattle.std.proofs.Common.{sym, subst, ◌∙◌}
 use Rattle.fx_data.specs.Table.{AreLawful}
 use Rattle.fx_data.proofs.Gathered.{entries_are}
 use Rattle.fx_data.proofs.Lawful.{gathered_lawful}
-use Rattle.fx_data.proofs.groups.gather.Goals as goal
+use Rattle.fx_data.proofs.groups.sorted.Goals as goal
 
 pub invariant_of-result : goal.invariant_of-result
 invariant_of-result c =

@@ -1,0 +1,7 @@
+use Rattle.std.proofs.Common.{ap, ◌∙◌}
+use Rattle.fx_data.specs.Regrouped.{joined}
+use Rattle.fx_data.proofs.Regrouped.{pushed}
+use Rattle.fx_data.proofs.runs.Runs.push_table.Goals as goal
+
+pub returns : goal.returns
+returns c = pushed c.self.inside.tables.items c.in_ok-tables.tables.items c.args.table c.in_ok-tables.ensures ∙ ap (λ groups. joined groups c.args.table) c.self.view_is
