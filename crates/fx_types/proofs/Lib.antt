@@ -1,4 +1,6 @@
+pub mod AgreeLaws
 pub mod Choices
+pub mod GroundSet
 pub mod PlainLaws
 pub mod RowSums
 pub mod ShapeLaws

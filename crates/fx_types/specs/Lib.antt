@@ -1,3 +1,4 @@
+pub mod Agree
 pub mod Ground
 pub mod Instance
 pub mod Kinds

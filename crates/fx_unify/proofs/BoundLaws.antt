@@ -11,12 +11,12 @@ use Rattle.fx_types.specs.Ground.{Ground, g_bool, g_int, g_text, g_time, g_span,
 use Rattle.fx_types.specs.Term.{Term, type_variable}
 use Rattle.fx_types.specs.Instance.{Solution, ground}
 use Rattle.fx_types.specs.Shape.{term}
-use Rattle.fx_unify.specs.declared.bounds.Bound as bounds
+use Rattle.fx_unify.specs.declared.bound.Bound as bounds
 use Rattle.fx_unify.specs.declared.fault.UnifyFault.{UnifyFault}
 use Rattle.fx_unify.specs.declared.fault.UnifyFault.TheVariants as fault
 use Rattle.fx_unify.specs.declared.sorts.Sorts as sorts
 use Rattle.fx_unify.specs.declared.store.Store as stores
-use Rattle.fx_unify.specs.Bounds.{Keeps, Inside, AreSome, Met, AllMet, Narrowed, NarrowingBy, NarrowingAt}
+use Rattle.fx_unify.specs.Bounds.{Keeps, Inside, AreSome, AreScalar, Met, AllMet, Narrowed, NarrowingBy, NarrowingAt}
 use Rattle.fx_unify.specs.Measure.{least}
 use Rattle.fx_unify.specs.Part.{p_is, value, Solved, type_node}
 use Rattle.fx_unify.specs.Sorts.{allows, plainest_of, plain_values, set_at, Allowed, every}
@@ -54,8 +54,14 @@ allowed_start s n = subst (λ k. allows k (s.type_of n) ≡ true) (sym (nothing_
 pub some_start : AreSome []
 some_start n = subst (λ k. allows k (plainest_of k) ≡ true) (sym (nothing_set n)) refl
 
-pub start_at : (st : stores.Store) (ks : List sorts.Sorts) → ks ≡ [] → ((s : Solution) → Solved s (entry st) → Keeps s [] → Allowed s ks) × AllMet st ks [] × AreSome ks
-start_at st ks e = (λ s solved keeps. subst (Allowed s) (sym e) (allowed_start s), tt, subst AreSome (sym e) some_start)
+scalar_start : AreScalar []
+scalar_start n = subst (λ k. allows k g_pattern ≡ true → allows k g_int ≡ true) (sym (nothing_set n)) (λ h. refl)
+
+abbrev pub Prefix : stores.Store → List sorts.Sorts → List bounds.Bound → Type 0
+Prefix st ks bs = ((s : Solution) → Solved s (entry st) → Keeps s bs → Allowed s ks) × AllMet st ks bs × AreSome ks × AreScalar ks
+
+pub start_at : (st : stores.Store) (ks : List sorts.Sorts) → ks ≡ [] → Prefix st ks []
+start_at st ks e = (λ s solved keeps. subst (Allowed s) (sym e) (allowed_start s), tt, subst AreSome (sym e) some_start, subst AreScalar (sym e) scalar_start)
 
 pub default_added : {A : Type 0} (xs : List A) (n : ℕ) (d : A) → get_or (xs ++ d ∷ []) n d ≡ get_or xs n d
 default_added [] zero d = refl
@@ -107,14 +113,14 @@ module _ (st : stores.Store) (b : bounds.Bound) (head : Ty) (same : (s : Solutio
   stands s solved = sym ((type_is (ground s (term head)) (s.type_of b.var)).0 (same s solved ∙ ap (λ t. g_is (ground s t)) (term_variable b.var)))
 
   pub by_head : (ks : List sorts.Sorts) (r : Bool) → ((s : Solution) → allows b.sorts (ground s (term head)) ≡ r) → r ≡ true → NarrowingBy {A = Unit {0}} (Ok tt) st ks ks b
-  by_head ks r holds e = (λ s solved a h. h, inl (λ s solved. ap (allows b.sorts) (stands s solved) ∙ holds s ∙ e), λ n g h. h, λ h. h)
+  by_head ks r holds e = (λ s solved a h. h, inl (λ s solved. ap (allows b.sorts) (stands s solved) ∙ holds s ∙ e), λ n g h. h, λ h. h, λ h. h)
 
   pub no_head : (old new : List sorts.Sorts) (r : Bool) → ((s : Solution) → allows b.sorts (ground s (term head)) ≡ r) → r ≡ false → NarrowingBy {A = Unit {0}} (Err fault.Clash) st old new b
   no_head old new r holds e = λ s solved a h. absurd (true≢false (sym a ∙ ap (allows b.sorts) (stands s solved) ∙ holds s ∙ e))
 
   pub by_variable : (m : ℕ) → head ≡ ty.Var m → bound_to (entry st) (p_is (term head)) ≡ None → (old new : List sorts.Sorts) (r : Result (Unit {0}) UnifyFault)
       → NarrowingAt r old new m b.sorts → NarrowingBy r st old new b
-  by_variable m e free old new (Ok a) h = (allowed, inr (m, none, λ s solved. as_var s solved, λ g k. (and_parts (allows (set_at old m) g) (allows b.sorts g) (sym (h.1 g) ∙ k)).1), inside, some)
+  by_variable m e free old new (Ok a) h = (allowed, inr (m, none, λ s solved. as_var s solved, λ g k. (and_parts (allows (set_at old m) g) (allows b.sorts g) (sym (h.1 g) ∙ k)).1), inside, some, scalar_left)
     where
       is : term head ≡ type_variable m
       is = ap term e ∙ term_variable m
@@ -145,6 +151,13 @@ module _ (st : stores.Store) (b : bounds.Bound) (head : Ty) (same : (s : Solutio
       some k n =
           by_cases (n == m) (λ t. subst (λ i. allows (set_at new i) (plainest_of (set_at new i)) ≡ true) (sym (eqb-true n m t)) h.2)
           (λ t. subst (λ j. allows j (plainest_of j) ≡ true) (sym (h.0 n (λ f. absurd (true≢false (sym (eq-eqb n m f) ∙ t))))) (k n))
+
+      scalar_left : AreScalar old → AreScalar new
+      scalar_left k n =
+          by_cases (n == m)
+          (λ t a. (let there : allows (set_at new m) g_pattern ≡ true = subst (λ i. allows (set_at new i) g_pattern ≡ true) (eqb-true n m t) a in
+          absurd (true≢false (sym (and_parts (allows (set_at old m) g_pattern) (allows b.sorts g_pattern) (sym (h.1 g_pattern) ∙ there)).1 ∙ b.scalar))))
+          (λ t. subst (λ j. allows j g_pattern ≡ true → allows j g_int ≡ true) (sym (h.0 n (λ f. absurd (true≢false (sym (eq-eqb n m f) ∙ t))))) (k n))
   by_variable m e free old new (Err fault.Clash) h =
       λ s solved a k. (let as_var : s.type_of b.var ≡ s.type_of m = stands s solved ∙ ap (ground s) (ap term e ∙ term_variable m) in
       absurd (true≢false (sym (and_from (allows (set_at old m) (s.type_of m)) (allows b.sorts (s.type_of m)) (k m) (ap (allows b.sorts) (sym as_var) ∙ a)) ∙ h (s.type_of m))))
@@ -168,9 +181,6 @@ pub left_none : (old new : List sorts.Sorts) (n : ℕ) (k was left : sorts.Sorts
 left_none old new n k was left is meet none = λ g. sym (ap (λ j. allows j g && allows k g) is) ∙ sym (meet g) ∙ none g
 
 -- all bounds
-
-abbrev pub blank : bounds.Bound
-blank = record { var = 0; sorts = record { boolean = false; integer = false; text = false; time = false; span = false; other = false } }
 
 pub item_again : {A : Type 0} (xs : List A) (i : ℕ) (d : A) → i < length xs → get_or xs i d ≡ get_or xs i (get_or xs i d)
 item_again [] i d lt = absurd (omega arith)
@@ -201,9 +211,6 @@ all_met_more : (st : stores.Store) (old new : List sorts.Sorts) (bs : List bound
 all_met_more st old new [] b inside h m = (m, tt)
 all_met_more st old new (c ∷ bs) b inside h m = (met_inside st old new c inside h.0, all_met_more st old new bs b inside h.1 m)
 
-abbrev Prefix : stores.Store → List sorts.Sorts → List bounds.Bound → Type 0
-Prefix st ks bs = ((s : Solution) → Solved s (entry st) → Keeps s bs → Allowed s ks) × AllMet st ks bs × AreSome ks
-
 pub one_narrowed : (st : stores.Store) (old new : List sorts.Sorts) (bs : List bounds.Bound) (i : ℕ) (b : bounds.Bound) → i < length bs → b ≡ get_or bs i b → Prefix st old (take i bs)
     → NarrowingBy {A = Unit {0}} (Ok tt) st old new b → Prefix st new (take (i + 1) bs)
 one_narrowed st old new bs i b lt at h n =
@@ -212,6 +219,7 @@ one_narrowed st old new bs i b lt at h n =
           n.0 s solved split.1 (h.0 s solved split.0)),
       subst (AllMet st new) (sym next) (all_met_more st old new (take i bs) b n.2 h.1 n.1),
       n.3 h.2,
+      n.4 h.3,
     )
 
 pub one_refused : (st : stores.Store) (old new : List sorts.Sorts) (bs : List bounds.Bound) (i : ℕ) (b : bounds.Bound) (f : UnifyFault) → i < length bs → b ≡ get_or bs i b
@@ -231,4 +239,4 @@ least_keeps st ks (b ∷ bs) k some solved h = (one h.0, least_keeps st ks bs k 
 pub all_narrowed : (st : stores.Store) (ks : List sorts.Sorts) (bs : List bounds.Bound) (i : ℕ) → length bs ≤ i → Prefix st ks (take i bs) → Narrowed st ks bs
 all_narrowed st ks bs i le h =
     let all : Prefix st ks bs = subst (Prefix st ks) (take_all bs i le) h in
-    (all.0, λ k solved. least_keeps st ks bs k all.2 solved all.1)
+    (all.0, λ k solved. least_keeps st ks bs k all.2 solved all.1, all.2, all.3)

@@ -3,11 +3,13 @@ use Rattle.std.proofs.Common.{◌≡◌, ◌↔◌, ◌⊎◌, inl, inr, refl, s
 use Rattle.std.proofs.lemmas.List.{take_more}
 use mathlib.Core.Bool.{true≢false}
 use Rattle.fx_value.specs.declared.scalar.Kind as kinds
+use Rattle.fx_value.specs.declared.scalar.Kind.TheVariants as kind
 use Rattle.fx_types.specs.Ground.{Ground, g_bool, g_int, g_text, g_time, g_span, g_pattern, g_done, g_array, g_fun, g_rec, g_stream}
 use Rattle.fx_unify.specs.declared.sorts.Sorts as sorts
 use Rattle.fx_types.specs.Kinds.{of_kind, IsAmong}
 use Rattle.fx_unify.specs.Sorts.{allows}
 use Rattle.fx_unify.proofs.RowLaws.{take_all}
+use Rattle.fx_types.proofs.Choices.{by_cases}
 
 -- one kind more: the type of that kind, or as before
 abbrev More : sorts.Sorts → sorts.Sorts → Ground → Ground → Type 0
@@ -144,3 +146,19 @@ kinds_all ks i b k le h g = subst (λ xs. (allows k g ≡ true) ↔ IsAmong xs b
 
 pub among : (ks xs : List kinds.Kind) (b : Bool) (k : sorts.Sorts) → xs ≡ ks → ((g : Ground) → (allows k g ≡ true) ↔ IsAmong xs b g) → (g : Ground) → (allows k g ≡ true) ↔ IsAmong ks b g
 among ks xs b k e h g = subst (λ ys. (allows k g ≡ true) ↔ IsAmong ys b g) e (h g)
+
+-- kinds are scalars
+
+of_kind_apart : (k : kinds.Kind) → g_pattern ≡ of_kind k → ⊥
+of_kind_apart kind.Bool e = cc
+of_kind_apart kind.Int e = cc
+of_kind_apart kind.Text e = cc
+of_kind_apart kind.Time e = cc
+
+among_pattern : (ks : List kinds.Kind) (span : Bool) → IsAmong ks span g_pattern → ⊥
+among_pattern [] span h = let e : g_pattern ≡ g_span = h.1 in cc
+among_pattern (k ∷ ks) span (inl e) = of_kind_apart k e
+among_pattern (k ∷ ks) span (inr h) = among_pattern ks span h
+
+pub scalars : (ks : List kinds.Kind) (span : Bool) (k : sorts.Sorts) → ((g : Ground) → (allows k g ≡ true) ↔ IsAmong ks span g) → k.other ≡ false
+scalars ks span k h = by_cases k.other (λ e. absurd (among_pattern ks span ((h g_pattern).0 e))) (λ e. e)

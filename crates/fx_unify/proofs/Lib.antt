@@ -1,11 +1,12 @@
-pub mod AgreeLaws
 pub mod ApplyLaws
+pub mod AskLaws
 pub mod BoundLaws
 pub mod Cases
 pub mod CompareLaws
 pub mod CountLaws
 pub mod DecideLaws
 pub mod HeadLaws
+pub mod JoinLaws
 pub mod JudgeLaws
 pub mod KeptLaws
 pub mod KindLaws
@@ -18,6 +19,7 @@ pub mod NumberLaws
 pub mod OpenLaws
 pub mod PutInLaws
 pub mod PlainRowLaws
+pub mod PlainestLaws
 pub mod RowLaws
 pub mod RunLaws
 pub mod SolvingLaws

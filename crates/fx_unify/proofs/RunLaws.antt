@@ -1,13 +1,17 @@
 -- One equation after another, until none is left.
-use Rattle.std.proofs.Common.{◌≡◌, ◌↔◌, refl, sym, ap, subst, ◌∙◌, List, [], ◌∷◌, ◌++◌, Err}
+use Rattle.std.proofs.Common.{◌≡◌, ◌↔◌, refl, sym, ap, subst, ◌∙◌, List, [], ◌∷◌, ◌++◌, Result, Ok, Err}
 use Rattle.fx_types.specs.Instance.{Solution}
 use Rattle.fx_unify.specs.declared.fault.UnifyFault.{UnifyFault}
 use Rattle.fx_unify.specs.declared.fault.UnifyFault.TheVariants as fault
+use Rattle.fx_unify.specs.declared.sorts.Sorts as sorts
 use Rattle.fx_unify.specs.declared.store.Store as stores
 use Rattle.fx_unify.specs.declared.work.Pair as pairs
+use Rattle.fx_unify.specs.Decide.{Checking, IsLeast}
 use Rattle.fx_unify.specs.Part.{part, value, Solved}
+use Rattle.fx_unify.specs.Sorts.{Allowed}
 use Rattle.fx_unify.specs.Store.{entry}
-use Rattle.fx_unify.specs.Work.{Hold, Holds, Solving, nothing_more}
+use Rattle.fx_unify.specs.Work.{Hold, Holds, Within, Told, Refuses, Solving, nothing_more}
+use Rattle.fx_unify.proofs.BoundLaws.{allowed_start}
 use Rattle.fx_unify.proofs.SolvingLaws.{hold_more}
 
 abbrev Equation : pairs.Pair → Solution → Type 0
@@ -44,3 +48,15 @@ all_done start now less same work h s =
       λ k. ((h s).0 ((same s).0 k.0, subst (Hold s) (sym e) k.1), tt),
       λ k. (let n : Holds s now = (h s).1 k.0 in ((same s).1 n.0, subst (Hold s) e n.1)),
     )
+
+-- what is bound has no solution within the limit, whatever is left to solve
+
+pub looked : (st : stores.Store) (ks : List sorts.Sorts) (r : Result (Unit {0}) UnifyFault) → ks ≡ [] → Checking r st ks (IsLeast st ks) → Refuses r ((s : Solution) → Solved s (entry st) → Within s → ⊥)
+looked st ks (Ok a) none h = tt
+looked st ks (Err fault.Clash) none h = λ s solved within. h s (solved, subst (Allowed s) (sym none) (allowed_start s)) within
+looked st ks (Err fault.Memory) none h = tt
+
+pub look_refused : (start now : stores.Store) → ((s : Solution) → Holds s now ↔ Holds s start) → (f : UnifyFault) → Told f ((s : Solution) → Solved s (entry now) → Within s → ⊥)
+    → Solving {A = Unit {0}} (Err f) start now nothing_more
+look_refused start now on_way fault.Clash h = λ s holds more within. h s ((on_way s).1 holds).0 within
+look_refused start now on_way fault.Memory h = tt

@@ -52,7 +52,7 @@ bound_holds st st' x p work free new others s =
       λ h. (both.1 (h.0.0, h.1), subst (λ w. Hold s w.items) (sym work) h.0.1),
     )
 
-slots_same : (st st' : stores.Store) → st'.slots ≡ st.slots → st'.apart ≡ st.apart → st'.rests ≡ st.rests → (r : ℕ) (l : Label) → entry st' (slot_node r l) ≡ entry st (slot_node r l)
+pub slots_same : (st st' : stores.Store) → st'.slots ≡ st.slots → st'.apart ≡ st.apart → st'.rests ≡ st.rests → (r : ℕ) (l : Label) → entry st' (slot_node r l) ≡ entry st (slot_node r l)
 slots_same st st' slots apart rests r l = λ i. slot_in (get_or (slots i).items r []) l (rest_in (get_or (apart i).items r []) (get_or (rests i).items r None) l)
 
 pub type_bound : (st st' : stores.Store) (n : ℕ) (t : Ty) → st'.fields ≡ st.fields → st'.slots ≡ st.slots → st'.apart ≡ st.apart → st'.rests ≡ st.rests → st'.work ≡ st.work

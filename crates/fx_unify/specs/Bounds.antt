@@ -1,8 +1,8 @@
 -- Bounds on type variables, and what they leave to the free ones.
 use Rattle.std.specs.Prelude.{◌≡◌, ◌≢◌, ◌⊎◌, ◌&&◌, ℕ, true, false, List, [], ◌∷◌, None, Result, Ok, Err}
-use Rattle.fx_types.specs.Ground.{Ground}
+use Rattle.fx_types.specs.Ground.{Ground, g_int, g_pattern}
 use Rattle.fx_types.specs.Instance.{Solution}
-use Rattle.fx_unify.specs.declared.bounds.Bound as bounds
+use Rattle.fx_unify.specs.declared.bound.Bound as bounds
 use Rattle.fx_unify.specs.declared.fault.UnifyFault as faults
 use Rattle.fx_unify.specs.declared.fault.UnifyFault.TheVariants as fault
 use Rattle.fx_unify.specs.declared.sorts.Sorts as sorts
@@ -24,6 +24,10 @@ Inside k j = (g : Ground) → allows k g ≡ true → allows j g ≡ true
 abbrev pub AreSome : List sorts.Sorts → Type 0
 AreSome ks = (n : ℕ) → allows (set_at ks n) (plainest_of (set_at ks n)) ≡ true
 
+-- where types that are no scalars are left, all are
+abbrev pub AreScalar : List sorts.Sorts → Type 0
+AreScalar ks = (n : ℕ) → allows (set_at ks n) g_pattern ≡ true → allows (set_at ks n) g_int ≡ true
+
 -- the bound holds in all solutions, or what is left to the free variable behind it lies within
 abbrev pub Met : stores.Store → List sorts.Sorts → bounds.Bound → Type 0
 Met st ks b =
@@ -38,12 +42,13 @@ AllMet st ks (b ∷ bs) = Met st ks b × AllMet st ks bs
 abbrev pub Narrowed : stores.Store → List sorts.Sorts → List bounds.Bound → Type 0
 Narrowed st ks bs =
     ((s : Solution) → Solved s (entry st) → Keeps s bs → Allowed s ks) × ((k : ℕ) → Solved (least st ks k) (entry st) → Keeps (least st ks k) bs)
+    × AreSome ks × AreScalar ks
 
 -- What one bound more leaves. Clash: no solution keeps it.
 abbrev pub NarrowingBy : {A : Type 0} → Result A faults.UnifyFault → stores.Store → List sorts.Sorts → List sorts.Sorts → bounds.Bound → Type 0
 NarrowingBy (Ok a) st old new b =
     ((s : Solution) → Solved s (entry st) → allows b.sorts (s.type_of b.var) ≡ true → Allowed s old → Allowed s new) × Met st new b
-    × ((n : ℕ) → Inside (set_at new n) (set_at old n)) × (AreSome old → AreSome new)
+    × ((n : ℕ) → Inside (set_at new n) (set_at old n)) × (AreSome old → AreSome new) × (AreScalar old → AreScalar new)
 NarrowingBy (Err fault.Clash) st old new b = (s : Solution) → Solved s (entry st) → allows b.sorts (s.type_of b.var) ≡ true → Allowed s old → ⊥
 NarrowingBy (Err fault.Memory) st old new b = Unit {0}
 

@@ -5,7 +5,7 @@ use Rattle.fx_types.specs.Ground.{g_is}
 use Rattle.fx_types.specs.Instance.{Solution, ground}
 use Rattle.fx_types.specs.Shape.{term}
 use Rattle.fx_types.specs.Size.{IsType}
-use Rattle.fx_unify.specs.declared.bounds.Bound as bounds
+use Rattle.fx_unify.specs.declared.bound.Bound as bounds
 use Rattle.fx_unify.specs.declared.fault.UnifyFault as faults
 use Rattle.fx_unify.specs.declared.fault.UnifyFault.TheVariants as fault
 use Rattle.fx_unify.specs.declared.sorts.Sorts as sorts
@@ -14,6 +14,7 @@ use Rattle.fx_unify.specs.Bounds.{Keeps}
 use Rattle.fx_unify.specs.Decide.{Fixed}
 use Rattle.fx_unify.specs.Measure.{least, Admits}
 use Rattle.fx_unify.specs.Part.{Solved}
+use Rattle.fx_unify.specs.Plainest.{IsPlainest}
 use Rattle.fx_unify.specs.Smaller.{IsSmaller}
 use Rattle.fx_unify.specs.Store.{entry}
 use Rattle.fx_unify.specs.Work.{Within}
@@ -32,9 +33,11 @@ CheckingTerms (Ok a) st ks ts = (k : ℕ) × AreFixed (least st ks) ts k
 CheckingTerms (Err fault.Clash) st ks ts = (s : Solution) → Admits st ks s → AreTypes s ts → ⊥
 CheckingTerms (Err fault.Memory) st ks ts = Unit {0}
 
--- Ok: there is such a solution, and no term is smaller under another. Clash: there is none.
+-- Ok: there is such a solution, the plainest, and no term is smaller under another. Clash: there is
+-- none.
 abbrev pub Judging : {A : Type 0} → Result A faults.UnifyFault → stores.Store → List bounds.Bound → List types.Ty → Type 0
 Judging (Ok a) st bs ts =
-    (s : Solution) × Solved s (entry st) × Keeps s bs × AreTypes s ts × Within s × ((q : Solution) → Solved q (entry st) → Keeps q bs → IsSmaller s q)
+    (s : Solution) × Solved s (entry st) × Keeps s bs × AreTypes s ts × Within s × IsPlainest st bs s
+    × ((q : Solution) → Solved q (entry st) → Keeps q bs → IsSmaller s q)
 Judging (Err fault.Clash) st bs ts = (s : Solution) → Solved s (entry st) → Keeps s bs → AreTypes s ts → Within s → ⊥
 Judging (Err fault.Memory) st bs ts = Unit {0}

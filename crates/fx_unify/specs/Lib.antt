@@ -1,3 +1,4 @@
+pub mod Below
 pub mod Bounds
 pub mod Counted
 pub mod Decide
@@ -7,6 +8,7 @@ pub mod Light
 pub mod Measure
 pub mod Part
 pub mod Pick
+pub mod Plainest
 pub mod PutIn
 pub mod Rows
 pub mod Smaller

@@ -7,18 +7,12 @@ ghost use Rattle.fx_unify.specs.Part.{Solved};
 ghost use Rattle.fx_unify.specs.Store.{entry};
 ghost use Rattle.fx_unify.specs.Work.{Refuses};
 
+use crate::bound::Bound;
 use crate::fault::UnifyFault;
 use crate::sorts::{Sorts, put_sorts, sorts_at};
 use crate::store::Store;
 use fx_types::Ty;
 use std::alloc::Global;
-
-/// The type variable has one of these types.
-#[derive(Debug, Drop)]
-pub(crate) struct Bound {
-    pub(crate) var: u32,
-    pub(crate) sorts: Sorts,
-}
 
 impl Store {
     /// What the bounds leave to the type variables that are free.

@@ -31,7 +31,7 @@ impl Store {
                 return Some(nodes);
             }
             match self.variable_after(current) {
-                Some(next) => current = next,
+                Some(next) => current = next as usize,
                 None => return None,
             }
         }
@@ -50,7 +50,7 @@ impl Store {
             }
             counts.keep(current, nodes);
             match self.variable_after(current) {
-                Some(next) => current = next,
+                Some(next) => current = next as usize,
                 None => return,
             }
         }
@@ -78,7 +78,7 @@ impl Store {
     }
 
     /// The type variable that the variable is bound to.
-    fn variable_after(&self, variable: usize) -> Option<usize>
+    pub(crate) fn variable_after(&self, variable: usize) -> Option<u32>
         ensures { MatchOption result (Unit {0}) (λ v. entry self.now (type_node variable) ≡ Some (p_is (type_variable v))) }
     {
         match type_bound(self.types.as_slice(), variable) {
@@ -89,11 +89,11 @@ impl Store {
 }
 
 /// The number of the type variable that the type is.
-fn number_of(ty: &Ty) -> Option<usize>
+fn number_of(ty: &Ty) -> Option<u32>
     ensures { MatchOption result (Unit {0}) (λ v. term ty.now ≡ type_variable v) }
 {
     match ty {
-        Ty::Var(number) => Some(*number as usize),
+        Ty::Var(number) => Some(*number),
         _ => None,
     }
 }

@@ -25,6 +25,19 @@ impl Store {
     ) -> Result<(), UnifyFault>
         ensures { Solving result self.old self.new (λ s. value s (part left) ≡ value s (part right)) }
     {
+        if let Some(one) = self.last_variable(&left) {
+            if let Some(other) = self.last_variable(&right) {
+                self.join(one, other)?;
+                return Ok(());
+            }
+        }
+        self.take_apart(alloc, left, right)
+    }
+
+    /// Solves an equation by what its two sides lead to.
+    fn take_apart(&mut self, alloc: Global, left: Field, right: Field) -> Result<(), UnifyFault>
+        ensures { Solving result self.old self.new (λ s. value s (part left) ≡ value s (part right)) }
+    {
         let a = self.resolve(alloc, left)?;
         let b = self.resolve(alloc, right)?;
         if is_same(&a, &b) {

@@ -1,6 +1,6 @@
 //! Fields as equations speak of them, without copies.
 
-ghost use Rattle.std.specs.Prelude.{◌≡◌, IfOk, None, option_map};
+ghost use Rattle.std.specs.Prelude.{◌≡◌, IfOk, MatchOption, None, Some, option_map, slice_index_or};
 ghost use Rattle.fx_types.specs.Instance.{Solution};
 ghost use Rattle.fx_types.specs.Shape.{term, field_term};
 ghost use Rattle.fx_unify.specs.Least.{Leads};
@@ -10,11 +10,11 @@ ghost use Rattle.fx_unify.specs.View.{part_seen, field_bound_to};
 
 use crate::field::Field;
 use crate::labels::has_text;
-use crate::lookup::slot_at;
 use crate::row::find_slot;
 use crate::store::{Root, Store};
 use fx_base::{Memory, Text};
 use fx_types::{FieldTy, Ty};
+use std::alloc::Global;
 
 /// More steps than any machine takes.
 const FUEL: u64 = u64::MAX;
@@ -42,6 +42,20 @@ impl Field {
     }
 }
 
+impl<'a> View<'a> {
+    /// A field of one's own.
+    fn copy(self, alloc: Global) -> Result<Field, Memory>
+        ensures { IfOk result (λ f. part f ≡ part_seen self.entry) }
+    {
+        match self {
+            View::Absent => Ok(Field::Absent),
+            View::Is(ty) => Ok(Field::Is(ty.copy(alloc)?)),
+            View::Var(number) => Ok(Field::Var(number)),
+            View::Slot(row, label) => Ok(Field::Slot(row, label.copy()?)),
+        }
+    }
+}
+
 /// What a term has.
 pub(crate) fn view_of(field: &FieldTy) -> View
     ensures { part_seen result ≡ part_of (field_term field.now) }
@@ -54,6 +68,20 @@ pub(crate) fn view_of(field: &FieldTy) -> View
 }
 
 impl Store {
+    /// Follows bound variables up to a field that is none.
+    pub(crate) fn resolve(&self, alloc: Global, field: Field) -> Result<Field, Memory>
+        ensures same { IfOk result (λ f. (s : Solution) → Solved s (entry self.now) → value s (part f) ≡ value s (part field)) }
+        ensures free { IfOk result (λ f. bound_to (entry self.now) (part f) ≡ None) }
+    {
+        match self.view_after(field.view()) {
+            Some(next) => {
+                let seen = self.seen(next)?;
+                seen.copy(alloc)
+            }
+            None => Ok(field),
+        }
+    }
+
     /// Follows bound variables up to a field that is none.
     pub(crate) fn seen<'a>(&'a self, view: View<'a>) -> Result<View<'a>, Memory>
         ensures same { IfOk result (λ v. (s : Solution) → Solved s (entry self.now) → value s (part_seen v) ≡ value s (part_seen view.entry)) }
@@ -77,7 +105,7 @@ impl Store {
         match view {
             View::Absent => None,
             View::Is(ty) => type_view(self.after_type(ty)),
-            View::Var(number) => field_view(slot_at(self.fields.as_slice(), number)),
+            View::Var(number) => field_view(field_bound(self.fields.as_slice(), number)),
             View::Slot(row, label) => self.slot_seen(row, label),
         }
     }
@@ -105,7 +133,7 @@ impl Store {
         match view {
             View::Absent => None,
             View::Is(_) => None,
-            View::Var(number) => field_view(slot_at(self.fields.as_slice(), number)),
+            View::Var(number) => field_view(field_bound(self.fields.as_slice(), number)),
             View::Slot(row, label) => self.slot_seen(row, label),
         }
     }
@@ -140,6 +168,17 @@ fn type_view(ty: Option<&Ty>) -> Option<View>
         Some(ty) => Some(View::Is(ty)),
         None => None,
     }
+}
+
+/// What the field variable is bound to.
+fn field_bound(items: &[Option<Field>], number: u32) -> Option<&Field>
+    ensures { MatchOption result (slice_index_or items.now number None ≡ None) (λ f. slice_index_or items.now number None ≡ Some f.now) }
+{
+    let at = number as usize;
+    if at < items.len() {
+        return items[at].as_ref();
+    }
+    None
 }
 
 fn field_view(field: Option<&Field>) -> Option<View>

@@ -1,23 +1,14 @@
-use Rattle.std.proofs.Common.{◌≡◌, refl, sym, ap, ◌∙◌, Some}
+use Rattle.std.proofs.Common.{◌≡◌, sym, ap, ◌∙◌, Some}
 use Rattle.std.specs.Prelude.{option_map}
-use Rattle.fx_unify.specs.Part.{part}
+use Rattle.fx_unify.specs.Part.{part, value}
 use Rattle.fx_unify.specs.Store.{entry, bound_to}
-use Rattle.fx_unify.proofs.LeastLaws.{leads_nowhere, leads_on}
+use Rattle.fx_unify.specs.View.{part_seen}
+use Rattle.fx_unify.proofs.RowLaws.{if_ok}
 use Rattle.fx_unify.proofs.StoreLaws.{stepped}
 use Rattle.fx_unify.proofs.store.Store.resolve.Goals as goal
 
-pub returns-in-None-clause-same : goal.returns-in-None-clause-same
-returns-in-None-clause-same c = c.loop-step.invariant.0
-
-pub returns-in-None-clause-leads : goal.returns-in-None-clause-leads
-returns-in-None-clause-leads c = c.loop-step.invariant.1
-
-pub loop-step-init : goal.loop-step-init
-loop-step-init c = (λ s solved. refl, leads_nowhere (entry c.args.self.now) (part c.args.field))
-
-pub loop-step-preserved : goal.loop-step-preserved
-loop-step-preserved c =
-    let bound : bound_to (entry c.args.self.now) (part c.loop-step.current) ≡ Some (part c.in-Some.next) = sym c.in_ok-next.ensures ∙ ap (option_map part) c.in-Some.is in (
-      λ s solved. sym (stepped (entry c.args.self.now) (part c.loop-step.current) (part c.in-Some.next) bound s solved) ∙ c.loop-step.invariant.0 s solved,
-      leads_on c.args.self.now (part c.args.field) (part c.loop-step.current) (part c.in-Some.next) c.loop-step.invariant.1 bound,
-    )
+pub returns-in_ok-seen-in-Some-clause-same : goal.returns-in_ok-seen-in-Some-clause-same
+returns-in_ok-seen-in-Some-clause-same c =
+    let bound : bound_to (entry c.args.self.now) (part c.args.field) ≡ Some (part_seen c.in-Some.next) =
+    ap (bound_to (entry c.args.self.now)) (sym c.view.ensures) ∙ sym c.view_after.ensures ∙ ap (option_map part_seen) c.in-Some.is in
+    if_ok c.copy.result (λ f e s solved. ap (value s) e ∙ c.in_ok-seen-in-Some.ensures.same s solved ∙ sym (stepped (entry c.args.self.now) (part c.args.field) (part_seen c.in-Some.next) bound s solved)) c.copy.ensures
