@@ -66,7 +66,7 @@ kinds_placed t (u ∷ ts) =
       | false ↦ ap (λ r. is_tag u && r) (kinds_placed t ts) ∙ swap_tests (is_tag u) (is_tag t) (list_all is_tag ts)
     ]
 
-kinds_sorted : (ts : List Tag) → list_all is_tag (sort_tags ts) ≡ list_all is_tag ts
+pub kinds_sorted : (ts : List Tag) → list_all is_tag (sort_tags ts) ≡ list_all is_tag ts
 kinds_sorted [] = refl
 kinds_sorted (t ∷ ts) = kinds_placed t (sort_tags ts) ∙ ap (λ r. is_tag t && r) (kinds_sorted ts)
 

@@ -1,4 +1,5 @@
 pub mod Answered
+pub mod Ascii
 pub mod Digits
 pub mod Keys
 pub mod Runs

@@ -2,6 +2,7 @@ pub mod Between
 pub mod ByTime
 pub mod Entries
 pub mod Grouped
+pub mod Kinds
 pub mod MapPut
 pub mod Places
 pub mod Same
