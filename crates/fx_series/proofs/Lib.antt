@@ -2,9 +2,9 @@ pub mod Between
 pub mod ByTime
 pub mod Entries
 pub mod Grouped
-pub mod Kinds
 pub mod MapPut
 pub mod Places
 pub mod Same
 pub mod Stands
 pub mod Unknown
+pub mod ValueKinds

@@ -33,19 +33,20 @@ kind_map : (id : SeriesId) (stored : List StoredPoint) (ids : List SeriesId) →
 kind_map id stored [] = refl
 kind_map id stored (k ∷ rest) = ap (λ o. if same_name id k then k.kind else o) (kind_map id stored rest)
 
-kind_past : (id a : SeriesId) → same_name id a ≡ false → (ids : List SeriesId) → kind_in id (filter (λ b. not (same_id a b)) ids) ≡ kind_in id ids
+-- the series other than one
+abbrev past : SeriesId → SeriesId → Bool
+past a b = not (same_id a b)
+
+kind_past : (id a : SeriesId) → same_name id a ≡ false → (ids : List SeriesId) → kind_in id (filter (past a) ids) ≡ kind_in id ids
 kind_past id a other [] = refl
 kind_past id a other (k ∷ rest) = by (same_id a k) refl (kind_past id a other rest)
   where
-    abbrev past : SeriesId → Bool
-    past b = not (same_id a b)
-
-    by : (t : Bool) → same_id a k ≡ t → kind_in id (filter past rest) ≡ kind_in id rest → kind_in id (filter past (k ∷ rest)) ≡ kind_in id (k ∷ rest)
+    by : (t : Bool) → same_id a k ≡ t → kind_in id (filter (past a) rest) ≡ kind_in id rest → kind_in id (filter (past a) (k ∷ rest)) ≡ kind_in id (k ∷ rest)
     by true e later =
         let here : same_name id k ≡ false = ap (same_name id) (sym (same_from a k e)) ∙ other in
-        ap (kind_in id) (cond-false (past k) (k ∷ filter past rest) (filter past rest) (ap not e)) ∙ later ∙ sym (cond-false (same_name id k) _ _ here)
+        ap (kind_in id) (cond-false (past a k) (k ∷ filter (past a) rest) (filter (past a) rest) (ap not e)) ∙ later ∙ sym (cond-false (same_name id k) _ _ here)
     by false e later =
-        ap (kind_in id) (cond-true (past k) (k ∷ filter past rest) (filter past rest) (ap not e)) ∙ ap (λ o. if same_name id k then k.kind else o) later
+        ap (kind_in id) (cond-true (past a k) (k ∷ filter (past a) rest) (filter (past a) rest) (ap not e)) ∙ ap (λ o. if same_name id k then k.kind else o) later
 
 kind_first_seen : (id : SeriesId) (ids : List SeriesId) → kind_in id (first_seen ids) ≡ kind_in id ids
 kind_first_seen id [] = refl
@@ -55,17 +56,17 @@ kind_first_seen id (a ∷ rest) = by (same_name id a) refl (kind_first_seen id r
     by true e later = cond-true (same_name id a) _ _ e ∙ sym (cond-true (same_name id a) _ _ e)
     by false e later = cond-false (same_name id a) _ _ e ∙ kind_past id a e (first_seen rest) ∙ later ∙ sym (cond-false (same_name id a) _ _ e)
 
+abbrev named : SeriesId → StoredPoint → Bool
+named id s = same_name id (id_of s)
+
 kind_stored : (id : SeriesId) (stored : List StoredPoint) → kind_in id (map id_of stored) ≡ kind_of_points (points_named id stored)
 kind_stored id [] = refl
 kind_stored id (s ∷ rest) = by (same_name id (id_of s)) refl (kind_stored id rest)
   where
-    abbrev named : StoredPoint → Bool
-    named s = same_name id (id_of s)
-
     by : (t : Bool) → same_name id (id_of s) ≡ t → kind_in id (map id_of rest) ≡ kind_of_points (points_named id rest) → kind_in id (map id_of (s ∷ rest)) ≡ kind_of_points (points_named id (s ∷ rest))
-    by true e later = cond-true (named s) _ _ e ∙ sym (ap (λ l. kind_of_points (map (λ s. s.point) l)) (cond-true (named s) (s ∷ filter named rest) (filter named rest) e))
+    by true e later = cond-true (named id s) _ _ e ∙ sym (ap (λ l. kind_of_points (map (λ s. s.point) l)) (cond-true (named id s) (s ∷ filter (named id) rest) (filter (named id) rest) e))
     by false e later =
-        cond-false (named s) _ _ e ∙ later ∙ sym (ap (λ l. kind_of_points (map (λ s. s.point) l)) (cond-false (named s) (s ∷ filter named rest) (filter named rest) e))
+        cond-false (named id s) _ _ e ∙ later ∙ sym (ap (λ l. kind_of_points (map (λ s. s.point) l)) (cond-false (named id s) (s ∷ filter (named id) rest) (filter (named id) rest) e))
 
 kind_is : (id : SeriesId) (stored : List StoredPoint) → kind_at id (grouped stored) ≡ kind_of_points (points_named id stored)
 kind_is id stored = kind_map id stored (first_seen (map id_of stored)) ∙ kind_first_seen id (map id_of stored) ∙ kind_stored id stored

@@ -1,5 +1,5 @@
 -- The values of a series are of its kind.
-use Rattle.std.proofs.Common.{◌≡◌, ℤ, Bool, true, false, cond, Option, List, [], ◌∷◌, map, filter, fold, All, sym, ap, subst}
+use Rattle.std.proofs.Common.{◌≡◌, ℤ, Bool, true, false, cond, refl, Option, List, [], ◌∷◌, map, filter, fold, All, sym, ap, subst}
 use Rattle.std.specs.declared.cmp.Ordering.TheVariants.{Less, Equal, Greater}
 use Rattle.std.specs.Ordering.{int_cmp, match_ordering}
 use Rattle.std.specs.List.{AllByRecursion}
@@ -10,7 +10,7 @@ use Rattle.fx_value.specs.declared.scalar.Kind.{Kind}
 use Rattle.fx_value.specs.declared.scalar.Scalar.{Scalar}
 use Rattle.fx_value.specs.Scalar.{kind_of}
 use Rattle.fx_line.specs.declared.point.Point.{Point}
-use Rattle.fx_line.specs.Stored.{StoredPoint, SeriesId, same_id, id_of, points_of, Series, series_of}
+use Rattle.fx_line.specs.Stored.{StoredPoint, SeriesId, same_id, id_of, points_of, by_time, Series, series_of}
 use Rattle.fx_series.proofs.Same.{same_from}
 
 abbrev pub AreOfKind : Option Kind → List (ℤ × Scalar) → Type 0
@@ -34,19 +34,20 @@ fold-of_kind o values [] g h = h
 fold-of_kind o values (p ∷ points) g h =
     fold-of_kind o (insert_entry int_cmp values p.time p.value) points g.1 (insert-of_kind o values p.time p.value g.0 h)
 
+abbrev is_one_of : SeriesId → StoredPoint → Bool
+is_one_of id s = same_id id (id_of s)
+
+abbrev ArePointsOfKind : Option Kind → List StoredPoint → Type 0
+ArePointsOfKind o stored = AllByRecursion (λ p. kind_of p.value ≡ o) (map (λ s. s.point) stored)
+
 points-of_kind : (id : SeriesId) (stored : List StoredPoint) → AllByRecursion (λ p. kind_of p.value ≡ id.kind) (points_of id stored)
 points-of_kind id [] = tt
 points-of_kind id (s ∷ rest) = by (same_id id (id_of s)) refl (points-of_kind id rest)
   where
-    abbrev here : StoredPoint → Bool
-    here s = same_id id (id_of s)
-
-    abbrev Are : List StoredPoint → Type 0
-    Are l = AllByRecursion (λ p. kind_of p.value ≡ id.kind) (map (λ s. s.point) l)
-
-    by : (t : Bool) → same_id id (id_of s) ≡ t → Are (filter here rest) → Are (filter here (s ∷ rest))
-    by true e later = subst Are (sym (cond-true (here s) (s ∷ filter here rest) (filter here rest) e)) (sym (ap (λ k. k.kind) (same_from id (id_of s) e)), later)
-    by false e later = subst Are (sym (cond-false (here s) (s ∷ filter here rest) (filter here rest) e)) later
+    by : (t : Bool) → same_id id (id_of s) ≡ t → ArePointsOfKind id.kind (filter (is_one_of id) rest) → ArePointsOfKind id.kind (filter (is_one_of id) (s ∷ rest))
+    by true e later =
+        subst (ArePointsOfKind id.kind) (sym (cond-true (is_one_of id s) (s ∷ filter (is_one_of id) rest) (filter (is_one_of id) rest) e)) (sym (ap (λ k. k.kind) (same_from id (id_of s) e)), later)
+    by false e later = subst (ArePointsOfKind id.kind) (sym (cond-false (is_one_of id s) (s ∷ filter (is_one_of id) rest) (filter (is_one_of id) rest) e)) later
 
 of_its_kind : (stored : List StoredPoint) (id : SeriesId) → IsOfItsKind (series_of stored id)
 of_its_kind stored id = fold-of_kind id.kind [] (points_of id stored) (points-of_kind id stored) tt
@@ -61,7 +62,4 @@ HasValuesOfKind s = All (λ v. kind_of v.1 ≡ s.id.kind) s.values
 pub values-of_kind : (stored : List StoredPoint) (ids : List SeriesId) → All HasValuesOfKind (map (series_of stored) ids)
 values-of_kind stored [] = All-nil HasValuesOfKind
 values-of_kind stored (id ∷ ids) =
-    All-cons HasValuesOfKind (series_of stored id) (map (series_of stored) ids) (All-from_recursion (λ v. kind_of v.1 ≡ id.kind) (by_values id) (of_its_kind stored id)) (values-of_kind stored ids)
-  where
-    abbrev by_values : SeriesId → List (ℤ × Scalar)
-    by_values id = (series_of stored id).values
+    All-cons HasValuesOfKind (series_of stored id) (map (series_of stored) ids) (All-from_recursion (λ v. kind_of v.1 ≡ id.kind) (by_time (points_of id stored)) (of_its_kind stored id)) (values-of_kind stored ids)
