@@ -3,6 +3,7 @@ pub mod ByTime
 pub mod Entries
 pub mod Grouped
 pub mod MapPut
+pub mod OneAnswer
 pub mod Places
 pub mod Same
 pub mod Stands
