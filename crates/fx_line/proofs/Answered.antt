@@ -16,14 +16,14 @@ use Rattle.fx_line.specs.Stored.{IsLawful}
 use Rattle.fx_line.proofs.Sorting.{sort_rises}
 use Rattle.fx_line.proofs.Unique.{same_spelled}
 
-spelled : (line : List ℕ) (w : Written) → IsPlain line w → IsSpelled line w
-spelled line w h = record { spelled = h.spelled; measurement = h.measurement; tags = h.tags; field = h.field; integer = h.integer; time = h.time }
+pub plain_is_spelled : (line : List ℕ) (w : Written) → IsPlain line w → IsSpelled line w
+plain_is_spelled line w h = record { spelled = h.spelled; measurement = h.measurement; tags = h.tags; field = h.field; integer = h.integer; time = h.time }
 
 pub refused_repeated : (line : List ℕ) (v : Written) → line ≢ [] → IsSpelled line v → (IsDistinct same_text (map key_of v.tags) → ⊥) → IsRefused line Syntax
 refused_repeated line v some h repeated = (
   some,
   λ w other.
-      let same : w ≡ v = same_spelled line w v (spelled line w other) h in
+      let same : w ≡ v = same_spelled line w v (plain_is_spelled line w other) h in
       repeated (subst (λ (u : Written). IsDistinct same_text (map key_of u.tags)) same other.keys),
 )
 
@@ -66,7 +66,7 @@ kinds_placed t (u ∷ ts) =
       | false ↦ ap (λ r. is_tag u && r) (kinds_placed t ts) ∙ swap_tests (is_tag u) (is_tag t) (list_all is_tag ts)
     ]
 
-kinds_sorted : (ts : List Tag) → list_all is_tag (sort_tags ts) ≡ list_all is_tag ts
+pub kinds_sorted : (ts : List Tag) → list_all is_tag (sort_tags ts) ≡ list_all is_tag ts
 kinds_sorted [] = refl
 kinds_sorted (t ∷ ts) = kinds_placed t (sort_tags ts) ∙ ap (λ r. is_tag t && r) (kinds_sorted ts)
 

@@ -1,6 +1,8 @@
 pub mod Answered
+pub mod Ascii
 pub mod Digits
 pub mod Keys
+pub mod OneAnswer
 pub mod Runs
 pub mod Sorting
 pub mod Spelling

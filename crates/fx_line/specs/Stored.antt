@@ -1,5 +1,5 @@
 -- Stored points: what the loaded points of the buckets are, apart from how a store keeps them.
-use Rattle.std.specs.Prelude.{◌≡◌, ℕ, ℤ, Bool, false, ◌&&◌, not, List, [], ◌∷◌, map, filter, fold, Option, None, nat_eq, All, FitsSigned}
+use Rattle.std.specs.Prelude.{◌≡◌, ℕ, ℤ, Bool, true, false, ◌&&◌, not, List, [], ◌∷◌, map, filter, fold, Option, None, Some, nat_eq, All, FitsSigned}
 use Rattle.std.specs.Int.{w64}
 use Rattle.std.specs.Ordering.{int_cmp}
 use Rattle.std.specs.List.{starts_with}
@@ -8,6 +8,7 @@ use Rattle.std.specs.BTreeMap.{insert_entry}
 use Rattle.std.specs.Cmp.Lexicographic.{pointwise}
 use Rattle.fx_base.specs.Text.{text_cmp, same_text}
 use Rattle.fx_value.specs.declared.scalar.Kind.{Kind}
+use Rattle.fx_value.specs.declared.scalar.Kind.TheVariants as kind
 use Rattle.fx_value.specs.declared.scalar.Scalar.{Scalar}
 use Rattle.fx_value.specs.declared.scalar.Scalar.TheVariants as scalar
 use Rattle.fx_value.specs.Scalar.{kind_of}
@@ -43,18 +44,30 @@ pub record StoredPoint : Type 0 where
   pub bucket : List ℕ
   pub point : Point
 
--- a series is named by its bucket and its key
+-- a series holds the points of a kind that have a bucket and a key: these two are its name
 pub record SeriesId : Type 0 where
   pub bucket : List ℕ
   pub key : SeriesKey
+  pub kind : Option Kind
+
+abbrev pub same_name : SeriesId → SeriesId → Bool
+same_name a b = same_text a.bucket b.bucket && same_series a.key b.key
+
+abbrev pub same_kind : Option Kind → Option Kind → Bool
+same_kind None None = true
+same_kind (Some kind.Bool) (Some kind.Bool) = true
+same_kind (Some kind.Int) (Some kind.Int) = true
+same_kind (Some kind.Text) (Some kind.Text) = true
+same_kind (Some kind.Time) (Some kind.Time) = true
+same_kind a b = false
 
 abbrev pub same_id : SeriesId → SeriesId → Bool
-same_id a b = same_text a.bucket b.bucket && same_series a.key b.key
+same_id a b = same_name a b && same_kind a.kind b.kind
 
 abbrev pub id_of : StoredPoint → SeriesId
-id_of s = record { bucket = s.bucket; key = s.point.series }
+id_of s = record { bucket = s.bucket; key = s.point.series; kind = kind_of s.point.value }
 
--- each name once, in the order in which they first stand
+-- each series once, in the order in which they first stand
 abbrev pub first_seen : List SeriesId → List SeriesId
 first_seen [] = []
 first_seen (a ∷ rest) = a ∷ filter (λ b. not (same_id a b)) (first_seen rest)
@@ -67,21 +80,23 @@ by_time = fold (λ entries p. insert_entry int_cmp entries p.time p.value) []
 abbrev pub points_of : SeriesId → List StoredPoint → List Point
 points_of id stored = map (λ s. s.point) (filter (λ s. same_id id (id_of s)) stored)
 
--- the kind of the first of some points
-abbrev pub kind_of_points : List Point → Option Kind
-kind_of_points [] = None
-kind_of_points (p ∷ rest) = kind_of p.value
-
--- a series as stored points give it: its name, the kind of its values, and the values by rising time
+-- a series as stored points give it: what it holds, and the values by rising time
 pub record Series : Type 0 where
   pub id : SeriesId
-  pub kind : Option Kind
   pub values : List (ℤ × Scalar)
 
 abbrev pub series_of : List StoredPoint → SeriesId → Series
-series_of stored id =
-    let points = points_of id stored in record { id = id; kind = kind_of_points points; values = by_time points }
+series_of stored id = record { id = id; values = by_time (points_of id stored) }
 
 -- all series of stored points, in the order in which their first points were put
 abbrev pub grouped : List StoredPoint → List Series
 grouped stored = map (series_of stored) (first_seen (map id_of stored))
+
+-- the points under the name of a series, whatever their kinds
+abbrev pub points_named : SeriesId → List StoredPoint → List Point
+points_named id stored = map (λ s. s.point) (filter (λ s. same_name id (id_of s)) stored)
+
+-- the kind of the first of some points
+abbrev pub kind_of_points : List Point → Option Kind
+kind_of_points [] = None
+kind_of_points (p ∷ rest) = kind_of p.value

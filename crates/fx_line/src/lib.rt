@@ -2,6 +2,7 @@
 #![tactic(auto)]
 
 mod field;
+mod laws;
 mod line;
 mod number;
 mod order;
@@ -11,6 +12,7 @@ mod reader;
 mod tags;
 mod word;
 
+pub use laws::a_line_has_one_answer;
 pub use line::{LineError, LineFault, LineMode, LineRead};
 pub use point::{Point, SeriesKey, Tag};
 pub use reader::read_line;

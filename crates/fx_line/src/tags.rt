@@ -1,6 +1,7 @@
 ghost use Rattle.std.specs.Prelude.{◌≡◌, ℕ, List, IsTrue, IfOk, IfSome, IfNone, MatchOption};
+ghost use Rattle.std.specs.List.{list_all};
 ghost use Rattle.fx_line.specs.declared.point.Tag.{Tag};
-ghost use Rattle.fx_line.specs.Line.{is_word_byte};
+ghost use Rattle.fx_line.specs.Line.{is_tag, is_word_byte};
 ghost use Rattle.fx_line.specs.Parts.{ends_run, BeginsWithTag, BeginsWithTags};
 
 use crate::point::Tag;
@@ -77,16 +78,25 @@ pub fn read_tags(alloc: Global, bytes: &[u8]) -> Result<Option<TagsRead<'_>>, Me
     }
 }
 
+/// The tag as texts.
+fn tag_of(alloc: Global, tag: &TagBytes<'_>) -> Result<Tag, Memory>
+    requires { IsTrue (is_tag tag.now) }
+    ensures { IfOk result (λ t. t ≡ tag.now) }
+{
+    Ok(Tag {
+        key: text_of(alloc, tag.key)?,
+        value: text_of(alloc, tag.value)?,
+    })
+}
+
 /// The tags as texts.
 pub fn tag_list(alloc: Global, tags: &[TagBytes<'_>]) -> Result<List<Tag>, Memory>
+    requires { IsTrue (list_all is_tag tags.now) }
     ensures { IfOk result (λ list. list ≡ tags.now) }
 {
     let mut list = List::of(Vec::with_capacity(alloc, tags.len())?);
     for tag in tags {
-        list.push(Tag {
-            key: text_of(alloc, tag.key)?,
-            value: text_of(alloc, tag.value)?,
-        })?;
+        list.push(tag_of(alloc, tag)?)?;
     }
     Ok(list)
 }

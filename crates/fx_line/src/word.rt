@@ -3,7 +3,7 @@ ghost use Rattle.std.specs.List.{list_all, position, position_or_len};
 ghost use Rattle.fx_line.specs.Line.{is_letter, is_word_byte, is_name, is_value};
 ghost use Rattle.fx_line.specs.Parts.{IsCut, is_other};
 
-use fx_base::{Memory, Text};
+use fx_base::{Memory, Text, TextFault};
 use std::alloc::Global;
 
 fn is_letter(byte: u8) -> bool
@@ -79,7 +79,12 @@ pub fn skip(bytes: &[u8], byte: u8) -> Option<&[u8]>
 
 /// The text of a word, which is ASCII.
 pub fn text_of(alloc: Global, word: &[u8]) -> Result<Text, Memory>
+    requires { IsTrue (list_all is_word_byte word.now) }
     ensures { IfOk result (λ t. t ≡ word.now) }
 {
-    Text::read(alloc, word).map_err(|_| Memory)
+    match Text::read(alloc, word) {
+        Ok(text) => Ok(text),
+        Err(TextFault::NotUtf8 { .. }) => unreachable!(),
+        Err(TextFault::Memory) => Err(Memory),
+    }
 }

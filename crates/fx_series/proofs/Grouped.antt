@@ -1,18 +1,18 @@
 -- How one more stored point changes the series.
 use Rattle.std.proofs.Common.{◌≡◌, Bool, true, false, not, ◌||◌, List, [], ◌∷◌, ◌++◌, map, filter, if◌then◌else◌, refl, sym, ap, subst, ◌∙◌, append-nil}
 use Rattle.std.specs.List.{list_any, AllByRecursion, IsDistinct}
-use Rattle.std.proofs.lemmas.Bool.{false≢true, not-true, or_parts, or_left, or_right, or_from, cond-true, cond-false}
+use Rattle.std.proofs.lemmas.Bool.{false≢true, false_from_ne_true, not-true, or_parts, or_left, or_right, or_from, cond-true, cond-false}
 use Rattle.std.proofs.lemmas.List.{map-append}
 use Rattle.std.proofs.lemmas.List.Elements.{filter-append, filter_passes, All-weaker, All-filter, All-from_recursion, recursion_from_All}
 use Rattle.std.proofs.lemmas.List.Sums.{fold-append}
 use Rattle.std.proofs.lemmas.Map.Keys.{IsDistinct-head, IsDistinct-tail, IsDistinct-cons}
 use Rattle.std.proofs.lemmas.Map.Views.{any-filter_same}
 use Rattle.fx_line.specs.declared.point.Point.{Point}
-use Rattle.fx_line.specs.Stored.{StoredPoint, SeriesId, same_id, id_of, first_seen, points_of, kind_of_points, by_time, Series, series_of, grouped}
+use Rattle.fx_line.specs.Stored.{StoredPoint, SeriesId, same_id, id_of, first_seen, points_of, by_time, Series, series_of, grouped}
 use Rattle.fx_series.specs.Held.{new_series, with_value, after_put}
 use Rattle.fx_series.proofs.Same.{same_from, same_itself, other_way}
 
--- ---- the names, each once
+-- ---- the series, each once
 filter_last_no : {X : Type 0} (p : X → Bool) (xs : List X) (x : X) → p x ≡ false → filter p (xs ++ x ∷ []) ≡ filter p xs
 filter_last_no p xs x e = filter-append p xs (x ∷ []) ∙ ap (λ l. filter p xs ++ l) (cond-false (p x) (x ∷ []) [] e) ∙ append-nil (filter p xs)
 
@@ -28,21 +28,23 @@ insert_there ids id h = cond-true (list_any (same_id id) ids) ids (ids ++ id ∷
 insert_new : (ids : List SeriesId) (id : SeriesId) → list_any (same_id id) ids ≡ false → insert_id ids id ≡ ids ++ id ∷ []
 insert_new ids id h = cond-false (list_any (same_id id) ids) ids (ids ++ id ∷ []) h
 
--- the names other than a
+-- the series other than a
 abbrev other_than : SeriesId → SeriesId → Bool
 other_than a b = not (same_id a b)
 
-any_other : (id a : SeriesId) (t : Bool) → same_id id a ≡ t → (rest : List SeriesId) → list_any (same_id id) (a ∷ filter (other_than a) rest) ≡ (same_id id a || list_any (same_id id) rest)
-any_other id a true e rest = or_left _ _ e ∙ sym (or_left _ _ e)
-any_other id a false e rest =
-    let differs : (k : SeriesId) → same_id id k ≡ true → other_than a k ≡ true = λ k h. ap not (subst (λ j. same_id a j ≡ false) (same_from id k h) (other_way id a e)) in
-    ap (λ t. same_id id a || t) (any-filter_same (same_id id) (other_than a) true differs rest)
+module _ (test : SeriesId → Bool) where
+  any_other : (a : SeriesId) (t : Bool) → test a ≡ t → (rest : List SeriesId) → list_any test (a ∷ filter (other_than a) rest) ≡ (test a || list_any test rest)
+  any_other a true e rest = or_left _ _ e ∙ sym (or_left _ _ e)
+  any_other a false e rest =
+      let apart : (k : SeriesId) → test k ≡ true → other_than a k ≡ true =
+      λ k h. ap not (false_from_ne_true (same_id a k) (λ s. false≢true (sym e ∙ ap test (same_from a k s) ∙ h))) in
+      ap (λ t. test a || t) (any-filter_same test (other_than a) true apart rest)
 
-pub any-first_seen : (id : SeriesId) (ids : List SeriesId) → list_any (same_id id) (first_seen ids) ≡ list_any (same_id id) ids
-any-first_seen id [] = refl
-any-first_seen id (a ∷ rest) = any_other id a (same_id id a) refl (first_seen rest) ∙ ap (λ t. same_id id a || t) (any-first_seen id rest)
+  pub any-first_seen : (ids : List SeriesId) → list_any test (first_seen ids) ≡ list_any test ids
+  any-first_seen [] = refl
+  any-first_seen (a ∷ rest) = any_other a (test a) refl (first_seen rest) ∙ ap (λ t. test a || t) (any-first_seen rest)
 
--- one more name behind those other than a
+-- one more series behind those other than a
 push_new : (a id : SeriesId) (seen : List SeriesId) (t : Bool) → same_id id a ≡ t → list_any (same_id id) seen ≡ false
     → a ∷ filter (other_than a) (seen ++ id ∷ []) ≡ insert_id (a ∷ filter (other_than a) seen) id
 push_new a id seen true e h =
@@ -50,12 +52,12 @@ push_new a id seen true e h =
     ap (λ l. a ∷ l) (filter_last_no (other_than a) seen id gone) ∙ sym (insert_there (a ∷ filter (other_than a) seen) id (or_left _ _ e))
 push_new a id seen false e h =
     let kept : other_than a id ≡ true = ap not (other_way id a e) in
-    ap (λ l. a ∷ l) (filter_last_yes (other_than a) seen id kept) ∙ sym (insert_new (a ∷ filter (other_than a) seen) id (any_other id a false e seen ∙ or_from _ _ e h))
+    ap (λ l. a ∷ l) (filter_last_yes (other_than a) seen id kept) ∙ sym (insert_new (a ∷ filter (other_than a) seen) id (any_other (same_id id) a false e seen ∙ or_from _ _ e h))
 
 push_among : (a id : SeriesId) (seen : List SeriesId) (t : Bool) → list_any (same_id id) seen ≡ t
     → a ∷ filter (other_than a) (insert_id seen id) ≡ insert_id (a ∷ filter (other_than a) seen) id
 push_among a id seen true h =
-    ap (λ l. a ∷ filter (other_than a) l) (insert_there seen id h) ∙ sym (insert_there (a ∷ filter (other_than a) seen) id (any_other id a (same_id id a) refl seen ∙ or_right _ _ h))
+    ap (λ l. a ∷ filter (other_than a) l) (insert_there seen id h) ∙ sym (insert_there (a ∷ filter (other_than a) seen) id (any_other (same_id id) a (same_id id a) refl seen ∙ or_right _ _ h))
 push_among a id seen false h = ap (λ l. a ∷ filter (other_than a) l) (insert_new seen id h) ∙ push_new a id seen (same_id id a) refl h
 
 pub first_seen-push : (ids : List SeriesId) (id : SeriesId) → first_seen (ids ++ id ∷ []) ≡ insert_id (first_seen ids) id
@@ -79,39 +81,25 @@ first_seen-distinct (a ∷ rest) =
     let apart = All-weaker (λ b. other_than a b ≡ true) (λ b. same_id a b ≡ false) (λ b. not-true (same_id a b)) (filter (other_than a) (first_seen rest)) (filter_passes (other_than a) (first_seen rest)) in
     IsDistinct-cons same_id a _ (recursion_from_All (λ b. same_id a b ≡ false) (filter (other_than a) (first_seen rest)) apart) (distinct-filter (other_than a) (first_seen rest) (first_seen-distinct rest))
 
--- ---- the points of a name
-pub points-push_same : (id : SeriesId) (stored : List StoredPoint) (s : StoredPoint) → same_id id (id_of s) ≡ true → points_of id (stored ++ s ∷ []) ≡ points_of id stored ++ s.point ∷ []
-points-push_same id stored s e = ap (map (λ s. s.point)) (filter_last_yes (λ s. same_id id (id_of s)) stored s e) ∙ map-append (λ s. s.point) _ (s ∷ [])
+-- ---- the points of a series, or under a name
+abbrev points_by : (SeriesId → Bool) → List StoredPoint → List Point
+points_by test stored = map (λ s. s.point) (filter (λ s. test (id_of s)) stored)
 
-pub points-push_other : (id : SeriesId) (stored : List StoredPoint) (s : StoredPoint) → same_id id (id_of s) ≡ false → points_of id (stored ++ s ∷ []) ≡ points_of id stored
-points-push_other id stored s e = ap (map (λ s. s.point)) (filter_last_no (λ s. same_id id (id_of s)) stored s e)
+module _ (test : SeriesId → Bool) where
+  pub points-push_same : (stored : List StoredPoint) (s : StoredPoint) → test (id_of s) ≡ true → points_by test (stored ++ s ∷ []) ≡ points_by test stored ++ s.point ∷ []
+  points-push_same stored s e = ap (map (λ s. s.point)) (filter_last_yes (λ s. test (id_of s)) stored s e) ∙ map-append (λ s. s.point) _ (s ∷ [])
 
-abbrev pub is_named : SeriesId → List StoredPoint → Bool
-is_named id stored = list_any (same_id id) (map id_of stored)
+  pub points-push_other : (stored : List StoredPoint) (s : StoredPoint) → test (id_of s) ≡ false → points_by test (stored ++ s ∷ []) ≡ points_by test stored
+  points-push_other stored s e = ap (map (λ s. s.point)) (filter_last_no (λ s. test (id_of s)) stored s e)
 
-pub no_points : (id : SeriesId) (stored : List StoredPoint) → is_named id stored ≡ false → points_of id stored ≡ []
-no_points id [] h = refl
-no_points id (s ∷ rest) h =
-    let here = or_parts _ _ h in
-    ap (map (λ s. s.point)) (cond-false (same_id id (id_of s)) (s ∷ filter _ rest) _ here.0) ∙ no_points id rest here.1
+  pub no_points : (stored : List StoredPoint) → list_any test (map id_of stored) ≡ false → points_by test stored ≡ []
+  no_points [] h = refl
+  no_points (s ∷ rest) h =
+      let here = or_parts _ _ h in
+      ap (map (λ s. s.point)) (cond-false (test (id_of s)) (s ∷ filter _ rest) _ here.0) ∙ no_points rest here.1
 
--- the first of some points
-pub record Starts (points : List Point) : Type 0 where
-  pub head : Point
-  pub tail : List Point
-  pub is : points ≡ head ∷ tail
-
-starts_later : (id : SeriesId) (s : StoredPoint) (rest : List StoredPoint) (t : Bool) → same_id id (id_of s) ≡ t → (t ≡ false → Starts (points_of id rest)) → Starts (points_of id (s ∷ rest))
-starts_later id s rest true e later =
-    record { head = s.point; tail = points_of id rest; is = ap (map (λ s. s.point)) (cond-true (same_id id (id_of s)) (s ∷ filter (λ s. same_id id (id_of s)) rest) _ e) }
-starts_later id s rest false e later =
-    let f = later refl in
-    record { head = f.head; tail = f.tail; is = ap (map (λ s. s.point)) (cond-false (same_id id (id_of s)) (s ∷ filter (λ s. same_id id (id_of s)) rest) _ e) ∙ f.is }
-
-pub some_points : (id : SeriesId) (stored : List StoredPoint) → is_named id stored ≡ true → Starts (points_of id stored)
-some_points id [] h = absurd (false≢true h)
-some_points id (s ∷ rest) h =
-    starts_later id s rest (same_id id (id_of s)) refl (λ e. some_points id rest (sym (ap (λ t. t || is_named id rest) e) ∙ h))
+abbrev is_there : SeriesId → List StoredPoint → Bool
+is_there id stored = list_any (same_id id) (map id_of stored)
 
 -- ---- one more point
 module _ (stored : List StoredPoint) (s : StoredPoint) where
@@ -122,71 +110,66 @@ module _ (stored : List StoredPoint) (s : StoredPoint) where
   put_into = after_put (id_of s) s.point.time s.point.value
 
   kept_series : (id : SeriesId) → same_id id (id_of s) ≡ false → series_of more id ≡ series_of stored id
-  kept_series id e =
-      let points = points-push_other id stored s e in
-      λ i. record { id = id; kind = kind_of_points (points i); values = by_time (points i) }
+  kept_series id e = λ i. record { id = id; values = by_time (points-push_other (same_id id) stored s e i) }
 
-  named_points : points_of (id_of s) more ≡ points_of (id_of s) stored ++ s.point ∷ []
-  named_points = points-push_same (id_of s) stored s (same_itself (id_of s))
+  own_points : points_of (id_of s) more ≡ points_of (id_of s) stored ++ s.point ∷ []
+  own_points = points-push_same (same_id (id_of s)) stored s (same_itself (id_of s))
 
-  first_point : is_named (id_of s) stored ≡ false → series_of more (id_of s) ≡ new_series (id_of s) s.point.time s.point.value
+  first_point : is_there (id_of s) stored ≡ false → series_of more (id_of s) ≡ new_series (id_of s) s.point.time s.point.value
   first_point h =
-      let points = named_points ∙ ap (λ ps. ps ++ s.point ∷ []) (no_points (id_of s) stored h) in
-      λ i. record { id = id_of s; kind = kind_of_points (points i); values = by_time (points i) }
+      let points = own_points ∙ ap (λ ps. ps ++ s.point ∷ []) (no_points (same_id (id_of s)) stored h) in
+      λ i. record { id = id_of s; values = by_time (points i) }
 
-  further_point : is_named (id_of s) stored ≡ true → series_of more (id_of s) ≡ with_value s.point.time s.point.value (series_of stored (id_of s))
-  further_point h =
-      let f = some_points (id_of s) stored h in
-      let kind : kind_of_points (points_of (id_of s) more) ≡ kind_of_points (points_of (id_of s) stored) =
-      ap kind_of_points (named_points ∙ ap (λ ps. ps ++ s.point ∷ []) f.is) ∙ sym (ap kind_of_points f.is) in
-      let values = ap by_time named_points ∙ fold-append _ [] (points_of (id_of s) stored) (s.point ∷ []) in
-      λ i. record { id = id_of s; kind = kind i; values = values i }
+  further_point : series_of more (id_of s) ≡ with_value s.point.time s.point.value (series_of stored (id_of s))
+  further_point =
+      let values = ap by_time own_points ∙ fold-append _ [] (points_of (id_of s) stored) (s.point ∷ []) in
+      λ i. record { id = id_of s; values = values i }
 
   others_kept : (ids : List SeriesId) → AllByRecursion (λ k. same_id (id_of s) k ≡ false) ids → map (series_of more) ids ≡ map (series_of stored) ids
   others_kept [] h = refl
   others_kept (k ∷ rest) h = λ i. kept_series k (other_way (id_of s) k h.0) i ∷ others_kept rest h.1 i
 
-  put_new : (ids : List SeriesId) → is_named (id_of s) stored ≡ false → list_any (same_id (id_of s)) ids ≡ false → map (series_of more) (ids ++ id_of s ∷ []) ≡ put_into (map (series_of stored) ids)
+  put_new : (ids : List SeriesId) → is_there (id_of s) stored ≡ false → list_any (same_id (id_of s)) ids ≡ false → map (series_of more) (ids ++ id_of s ∷ []) ≡ put_into (map (series_of stored) ids)
   put_new [] n h = λ i. first_point n i ∷ []
   put_new (k ∷ rest) n h =
       let apart = or_parts _ _ h in
       (λ i. kept_series k (other_way (id_of s) k apart.0) i ∷ put_new rest n apart.1 i) ∙ sym (cond-false (same_id (id_of s) k) _ _ apart.0)
 
-  put_there : (k : SeriesId) (rest : List SeriesId) (t : Bool) → same_id (id_of s) k ≡ t → is_named (id_of s) stored ≡ true → IsDistinct same_id (k ∷ rest)
+  put_there : (k : SeriesId) (rest : List SeriesId) (t : Bool) → same_id (id_of s) k ≡ t → IsDistinct same_id (k ∷ rest)
       → (t ≡ false → map (series_of more) rest ≡ put_into (map (series_of stored) rest)) → map (series_of more) (k ∷ rest) ≡ put_into (map (series_of stored) (k ∷ rest))
-  put_there k rest true e n h later =
+  put_there k rest true e h later =
       let same : id_of s ≡ k = same_from (id_of s) k e in
       let apart = subst (λ j. AllByRecursion (λ b. same_id j b ≡ false) rest) (sym same) (IsDistinct-head same_id k rest h) in
       let here : series_of more k ≡ with_value s.point.time s.point.value (series_of stored k) =
-      subst (λ j. series_of more j ≡ with_value s.point.time s.point.value (series_of stored j)) same (further_point n) in
+      subst (λ j. series_of more j ≡ with_value s.point.time s.point.value (series_of stored j)) same further_point in
       (λ i. here i ∷ others_kept rest apart i) ∙ sym (cond-true (same_id (id_of s) k) _ _ e)
-  put_there k rest false e n h later =
+  put_there k rest false e h later =
       (λ i. kept_series k (other_way (id_of s) k e) i ∷ later refl i) ∙ sym (cond-false (same_id (id_of s) k) _ _ e)
 
-  put_further : (ids : List SeriesId) → is_named (id_of s) stored ≡ true → IsDistinct same_id ids → list_any (same_id (id_of s)) ids ≡ true → map (series_of more) ids ≡ put_into (map (series_of stored) ids)
-  put_further [] n h a = absurd (false≢true a)
-  put_further (k ∷ rest) n h a =
-      put_there k rest (same_id (id_of s) k) refl n h (λ e. put_further rest n (IsDistinct-tail same_id k rest h) (sym (ap (λ t. t || list_any (same_id (id_of s)) rest) e) ∙ a))
+  put_further : (ids : List SeriesId) → IsDistinct same_id ids → list_any (same_id (id_of s)) ids ≡ true → map (series_of more) ids ≡ put_into (map (series_of stored) ids)
+  put_further [] h a = absurd (false≢true a)
+  put_further (k ∷ rest) h a =
+      put_there k rest (same_id (id_of s) k) refl h (λ e. put_further rest (IsDistinct-tail same_id k rest h) (sym (ap (λ t. t || list_any (same_id (id_of s)) rest) e) ∙ a))
 
-  names_more : first_seen (map id_of more) ≡ insert_id (first_seen (map id_of stored)) (id_of s)
-  names_more = ap first_seen (map-append id_of stored (s ∷ [])) ∙ first_seen-push (map id_of stored) (id_of s)
+  ids_more : first_seen (map id_of more) ≡ insert_id (first_seen (map id_of stored)) (id_of s)
+  ids_more = ap first_seen (map-append id_of stored (s ∷ [])) ∙ first_seen-push (map id_of stored) (id_of s)
 
-  put_either : (t : Bool) → is_named (id_of s) stored ≡ t → grouped more ≡ put_into (grouped stored)
+  put_either : (t : Bool) → is_there (id_of s) stored ≡ t → grouped more ≡ put_into (grouped stored)
   put_either true n =
-      let there : list_any (same_id (id_of s)) (first_seen (map id_of stored)) ≡ true = any-first_seen (id_of s) (map id_of stored) ∙ n in
-      ap (map (series_of more)) (names_more ∙ insert_there _ _ there) ∙ put_further (first_seen (map id_of stored)) n (first_seen-distinct (map id_of stored)) there
+      let there : list_any (same_id (id_of s)) (first_seen (map id_of stored)) ≡ true = any-first_seen (same_id (id_of s)) (map id_of stored) ∙ n in
+      ap (map (series_of more)) (ids_more ∙ insert_there _ _ there) ∙ put_further (first_seen (map id_of stored)) (first_seen-distinct (map id_of stored)) there
   put_either false n =
-      let absent : list_any (same_id (id_of s)) (first_seen (map id_of stored)) ≡ false = any-first_seen (id_of s) (map id_of stored) ∙ n in
-      ap (map (series_of more)) (names_more ∙ insert_new (first_seen (map id_of stored)) (id_of s) absent) ∙ put_new (first_seen (map id_of stored)) n absent
+      let absent : list_any (same_id (id_of s)) (first_seen (map id_of stored)) ≡ false = any-first_seen (same_id (id_of s)) (map id_of stored) ∙ n in
+      ap (map (series_of more)) (ids_more ∙ insert_new (first_seen (map id_of stored)) (id_of s) absent) ∙ put_new (first_seen (map id_of stored)) n absent
 
   -- the series of one more stored point are those before, with the point put
   pub grouped-push : grouped more ≡ put_into (grouped stored)
-  grouped-push = put_either (is_named (id_of s) stored) refl
+  grouped-push = put_either (is_there (id_of s) stored) refl
 
--- the names of the series are the names of the points, each once
-pub names-grouped : (stored : List StoredPoint) → map (λ t. t.id) (grouped stored) ≡ first_seen (map id_of stored)
-names-grouped stored = names-map stored (first_seen (map id_of stored))
+-- the series are those of the points, each once
+pub ids-grouped : (stored : List StoredPoint) → map (λ t. t.id) (grouped stored) ≡ first_seen (map id_of stored)
+ids-grouped stored = ids-map stored (first_seen (map id_of stored))
   where
-    names-map : (stored : List StoredPoint) (ids : List SeriesId) → map (λ t. t.id) (map (series_of stored) ids) ≡ ids
-    names-map stored [] = refl
-    names-map stored (k ∷ rest) = ap (λ l. k ∷ l) (names-map stored rest)
+    ids-map : (stored : List StoredPoint) (ids : List SeriesId) → map (λ t. t.id) (map (series_of stored) ids) ≡ ids
+    ids-map stored [] = refl
+    ids-map stored (k ∷ rest) = ap (λ l. k ∷ l) (ids-map stored rest)

@@ -3,7 +3,9 @@ pub mod ByTime
 pub mod Entries
 pub mod Grouped
 pub mod MapPut
+pub mod OneAnswer
 pub mod Places
 pub mod Same
 pub mod Stands
 pub mod Unknown
+pub mod ValueKinds

@@ -17,7 +17,7 @@ use Rattle.fx_series.specs.declared.series.StoredKey.{StoredKey}
 use Rattle.fx_series.specs.declared.series.Held.{Held}
 use Rattle.fx_series.specs.Held.{id_of_key, shown, after_put, SeriesAnswers}
 use Rattle.fx_series.specs.HeldAnswers.{HeldAnswers}
-use Rattle.fx_series.proofs.Same.{same_from}
+use Rattle.fx_series.proofs.Same.{name_decides}
 use Rattle.fx_series.proofs.Entries.{same_key, put_at, kind_found}
 
 -- the series of a key stands at a number
@@ -36,24 +36,25 @@ module _ (es : List (StoredKey × Held)) (key : StoredKey) (number : ℕ) (store
   found : lookup (same_key key) es ≡ Some old
   found = sym stands.value ∙ slice_get-map (λ e. e.1) es number ∙ ap (option_map (λ e. e.1)) stands.at
 
-  pub put_ok : (time : ℤ) (value : Scalar) (result : Result (Unit {0}) PutFault) → new.kind ≡ old.kind
-      → OnOk result (new.values.entries ≡ insert_entry int_cmp old.values.entries time value)
-      → OnOk result (map shown (set_value_at es number new) ≡ after_put (id_of_key key) time value (map shown es))
-  put_ok time value (Ok u) kind values =
+  pub put_ok : (time : ℤ) (kind : Kind) (value : Scalar) (result : Result (Unit {0}) PutFault) → kind_of value ≡ Some kind → HeldAnswers number old.kind kind result
+      → new.kind ≡ old.kind → OnOk result (new.values.entries ≡ insert_entry int_cmp old.values.entries time value)
+      → OnOk result (map shown (set_value_at es number new) ≡ after_put (id_of_key key (kind_of value)) time value (map shown es))
+  put_ok time kind value (Ok u) is answer same values =
       let p = position-Some (same_key key) (keys_of es) number key (sym stands.place) in
-      put_at key es number stored old new time value stands.at named p.2 kind values
-  put_ok time value (Err e) kind values = tt
+      put_at key es number stored old new time value stands.at named p.2 (is ∙ ap Some (sym answer)) same values
+  put_ok time kind value (Err e) is answer same values = tt
 
   pub answers_there : (kind : Kind) (value : Scalar) (result : Result (Unit {0}) PutFault) → kind_of value ≡ Some kind
-      → HeldAnswers number old.kind kind result → SeriesAnswers (map shown es) (id_of_key key) value result
-  answers_there kind value (Ok u) is answer = inr (kind_found key es old found ∙ ap Some answer ∙ sym is)
+      → HeldAnswers number old.kind kind result → SeriesAnswers (map shown es) (id_of_key key (kind_of value)) result
+  answers_there kind value (Ok u) is answer = inr (kind_found key (kind_of value) es old found ∙ ap Some answer ∙ sym is)
   answers_there kind value (Err fault.NoBucket) is answer = absurd answer
   answers_there kind value (Err (fault.KindConflict series was now)) is answer =
+      let names = (name_decides (id_of_key key None) (id_of_key stored None)).0 named in
       record {
         found = shown (stored, old);
         at = ap (slice_get (map shown es)) answer.0 ∙ slice_get-map shown es number ∙ ap (option_map shown) stands.at;
-        name = sym (same_from (id_of_key key) (id_of_key stored) named);
-        earlier = ap Some (sym answer.1);
+        is = λ i. record { bucket = sym names.0 i; key = sym names.1 i; kind = Some (sym answer.1 i) };
+        earlier = kind_found key (kind_of value) es old found ∙ ap Some (sym answer.1);
         later = is ∙ ap Some (sym answer.2);
         differ = λ e. answer.3 (sym answer.1 ∙ e ∙ answer.2);
       }
@@ -67,7 +68,7 @@ same_shown (e ∷ es) zero stored old new at kind values =
     let is : e.1 ≡ old = cc in
     let held : Some new.kind ≡ Some e.1.kind = ap Some (kind ∙ sym (ap (λ h. h.kind) is)) in
     let entries : new.values.entries ≡ e.1.values.entries = values ∙ sym (ap (λ h. h.values.entries) is) in
-    λ i. record { id = id_of_key e.0; kind = held i; values = entries i } ∷ map shown es
+    λ i. record { id = id_of_key e.0 (held i); values = entries i } ∷ map shown es
 same_shown (e ∷ es) (suc number) stored old new at kind values = ap (λ l. shown e ∷ l) (same_shown es number stored old new at kind values)
 
 pub put_err : (es : List (StoredKey × Held)) (number : ℕ) (stored : StoredKey) (old new : Held) → slice_get es number ≡ Some (stored, old)

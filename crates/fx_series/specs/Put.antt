@@ -2,19 +2,21 @@
 use Rattle.std.specs.Prelude.{◌≡◌, ◌≢◌, ℕ, true, false, List, Some, Result, Ok, Err, All, slice_get}
 use Rattle.fx_value.specs.declared.scalar.Kind.{Kind}
 use Rattle.fx_value.specs.Scalar.{kind_of}
-use Rattle.fx_line.specs.Stored.{StoredPoint, id_of, points_of, kind_of_points, series_of, grouped}
+use Rattle.fx_line.specs.Stored.{StoredPoint, id_of, points_named, kind_of_points, series_of, grouped}
 use Rattle.fx_series.specs.declared.fault.PutFault.{PutFault}
 use Rattle.fx_series.specs.declared.fault.PutFault.TheVariants as fault
+use Rattle.fx_series.specs.Held.{of_kind}
 use Rattle.fx_series.specs.Store.{is_added}
 
--- each earlier point of the point's series has the point's kind
+-- each earlier point of the point's name has the point's kind
 abbrev pub Agrees : List StoredPoint → StoredPoint → Type 0
-Agrees stored s = All (λ p. kind_of p.value ≡ kind_of s.point.value) (points_of (id_of s) stored)
+Agrees stored s = All (λ p. kind_of p.value ≡ kind_of s.point.value) (points_named (id_of s) stored)
 
--- the point's series has this number, an earlier point of it has the kind `old`, and the point has another kind, `new`
+-- the first point of the point's name has the kind `old`, the series of that kind has this number, and the point has another
+-- kind, `new`
 pub record Conflicts (stored : List StoredPoint) (s : StoredPoint) (number : ℕ) (old new : Kind) : Type 0 where
-  pub series : slice_get (grouped stored) number ≡ Some (series_of stored (id_of s))
-  pub earlier : kind_of_points (points_of (id_of s) stored) ≡ Some old
+  pub earlier : kind_of_points (points_named (id_of s) stored) ≡ Some old
+  pub series : slice_get (grouped stored) number ≡ Some (series_of stored (of_kind old (id_of s)))
   pub later : kind_of s.point.value ≡ Some new
   pub differ : old ≢ new
 

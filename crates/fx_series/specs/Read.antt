@@ -1,23 +1,14 @@
 -- What is read of a store.
-use Rattle.std.specs.Prelude.{ℕ, ℤ, Bool, true, false, ◌&&◌, ◌+◌, List, [], ◌∷◌, if◌then◌else◌, Option, Some, map, filter, int_le}
+use Rattle.std.specs.Prelude.{ℕ, ℤ, Bool, ◌&&◌, ◌+◌, List, [], ◌∷◌, if◌then◌else◌, Some, map, filter, int_le}
 use Rattle.fx_base.specs.Text.{same_text}
 use Rattle.fx_value.specs.declared.scalar.Kind.{Kind}
-use Rattle.fx_value.specs.declared.scalar.Kind.TheVariants as kind
 use Rattle.fx_value.specs.declared.scalar.Scalar.{Scalar}
-use Rattle.fx_line.specs.Stored.{Series}
+use Rattle.fx_line.specs.Stored.{Series, same_kind}
 use Rattle.fx_series.specs.declared.series.TimeValue.{TimeValue}
-
--- whether the kind of a series is this one
-abbrev pub same_kind : Option Kind → Kind → Bool
-same_kind (Some kind.Bool) kind.Bool = true
-same_kind (Some kind.Int) kind.Int = true
-same_kind (Some kind.Text) kind.Text = true
-same_kind (Some kind.Time) kind.Time = true
-same_kind o k = false
 
 -- whether a series is in a bucket and of a kind
 abbrev pub is_in : List ℕ → Kind → Series → Bool
-is_in bucket kind s = same_text bucket s.id.bucket && same_kind s.kind kind
+is_in bucket kind s = same_text bucket s.id.bucket && same_kind s.id.kind (Some kind)
 
 -- the values with first ≤ time ≤ last
 abbrev pub between : ℤ → ℤ → List (ℤ × Scalar) → List (ℤ × Scalar)

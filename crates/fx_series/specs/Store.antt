@@ -3,7 +3,7 @@ use Rattle.std.specs.Prelude.{◌≡◌, ℕ, Bool, true, List, [], ◌∷◌, �
 use Rattle.std.specs.List.{list_any}
 use Rattle.fx_base.specs.Text.{same_text}
 use Rattle.fx_value.specs.Scalar.{kind_of}
-use Rattle.fx_line.specs.Stored.{IsLawful, StoredPoint, SeriesId, Series, points_of, kind_of_points, grouped}
+use Rattle.fx_line.specs.Stored.{IsLawful, StoredPoint, SeriesId, Series, points_named, kind_of_points, grouped}
 
 -- what a store keeps: its buckets in the order in which they were added, its series as they now stand in the order in
 -- which their first points were put, and how many puts it accepted
@@ -20,9 +20,9 @@ is_added buckets name = list_any (same_text name) buckets
 abbrev pub with_bucket : List (List ℕ) → List ℕ → List (List ℕ)
 with_bucket buckets name = if is_added buckets name then buckets else buckets ++ name ∷ []
 
--- the points of each series are of one kind
+-- the points of each name are of one kind
 abbrev pub AreOfOneKind : List StoredPoint → Type 0
-AreOfOneKind stored = (id : SeriesId) → All (λ p. kind_of p.value ≡ kind_of_points (points_of id stored)) (points_of id stored)
+AreOfOneKind stored = (id : SeriesId) → All (λ p. kind_of p.value ≡ kind_of_points (points_named id stored)) (points_named id stored)
 
 -- a store keeps just these buckets and these stored points
 pub record StandsFor (kept : Kept) (buckets : List (List ℕ)) (stored : List StoredPoint) : Type 0 where

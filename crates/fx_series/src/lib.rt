@@ -8,6 +8,8 @@ mod series_map;
 mod store;
 
 pub use fault::PutFault;
-pub use laws::{last_point_stands, names_differ, times_rise, unknown_buckets_are_empty};
+pub use laws::{
+    last_point_stands, series_differ, times_rise, unknown_buckets_are_empty, values_are_of_the_kind,
+};
 pub use series::TimeValue;
 pub use store::Store;

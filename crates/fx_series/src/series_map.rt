@@ -50,9 +50,9 @@ impl SeriesMap {
     pub(crate) fn put(&mut self, key: StoredKey, time: i64, value: Scalar) -> Result<(), PutFault>
         requires few { length self.old < 2 ^ 32 }
         requires kind { IsSome (kind_of value) }
-        ensures ok { OnOk result (self.new ≡ after_put (id_of_key key) time value self.old) }
+        ensures ok { OnOk result (self.new ≡ after_put (id_of_key key (kind_of value)) time value self.old) }
         ensures err { OnErr result (self.new ≡ self.old) }
-        ensures answers { SeriesAnswers self.old (id_of_key key) value result }
+        ensures answers { SeriesAnswers self.old (id_of_key key (kind_of value)) result }
     {
         let kind = value.kind().unwrap();
         match self.entries.get_index_of(&key) {
@@ -70,7 +70,7 @@ impl SeriesMap {
 
     /// The name of the series with a number.
     pub(crate) fn name(&self, number: u32) -> Option<&StoredKey>
-        ensures { option_map (λ k. id_of_key k.now) result ≡ option_map (λ s. s.id) (slice_get self.now number) }
+        ensures { option_map (λ k. k.now.key) result ≡ option_map (λ s. s.id.key) (slice_get self.now number) }
     {
         match self.entries.get_index(number as usize) {
             Some((key, _)) => Some(key),

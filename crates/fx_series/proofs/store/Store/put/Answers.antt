@@ -1,6 +1,7 @@
 use Rattle.std.proofs.Common.{◌≡◌, Ok, Err, sym, ap, subst, ◌∙◌, arith, to_z, of_z, w64, length}
 use Rattle.std.proofs.lemmas.Int.{to_z-of_z}
 use Rattle.std.proofs.lemmas.Result.{err_from_is_err_and}
+use Rattle.fx_value.specs.Scalar.{kind_of}
 use Rattle.fx_line.specs.Stored.{StoredPoint, SeriesId}
 use Rattle.fx_series.specs.Store.{StandsFor, is_added}
 use Rattle.fx_series.proofs.Stands.{stands-after, answers-after, length-after_put}
@@ -17,7 +18,7 @@ returns-in_err-put-clause-answers c = λ buckets stored h.
 pub invariant_of-self-2 : goal.invariant_of-self-2
 invariant_of-self-2 c =
     let room = ap (λ k. k.puts) c.self.view_is in
-    let id : SeriesId = record { bucket = c.in_ok-copy.field-0; key = c.args.point.series } in
+    let id : SeriesId = record { bucket = c.in_ok-copy.field-0; key = c.args.point.series; kind = kind_of c.args.point.value } in
     let grown = ap length c.in_ok-put.ensures.ok in
     (omega (arith, grown, length-after_put id (to_z w64 (of_z w64 c.args.point.time)) c.args.point.value c.self.inside.series, c.self.invariant.0), omega (arith, room, c.requires.room))
 

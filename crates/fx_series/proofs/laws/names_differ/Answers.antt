@@ -1,8 +1,0 @@
-use Rattle.std.proofs.Common.{map, subst, sym}
-use Rattle.std.specs.List.{IsDistinct}
-use Rattle.fx_line.specs.Stored.{same_id, id_of}
-use Rattle.fx_series.proofs.Grouped.{names-grouped, first_seen-distinct}
-use Rattle.fx_series.proofs.laws.names_differ.Goals as goal
-
-pub returns : goal.returns
-returns c = λ stored. subst (IsDistinct same_id) (sym (names-grouped stored)) (first_seen-distinct (map id_of stored))
