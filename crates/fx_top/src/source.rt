@@ -11,7 +11,7 @@ ghost use Rattle.fx_top.specs.Run.{columns_of, named, with_tags, is_within, tabl
 use crate::labels::{Labels, own_labels};
 use crate::query::Query;
 use fx_base::{List, Memory, Steps, Text};
-use fx_data::{Table, Tables, gather, shared_key};
+use fx_data::{Table, Tables, collect, shared_key};
 use fx_line::{SeriesKey, Tag};
 use fx_series::{Store, TimeValue};
 use fx_value::{Head, Kind, Row, Scalar, Shape, Source};
@@ -34,7 +34,7 @@ pub fn query_tables<L: Ledger>(
         let table = series_table(alloc, store, *number, query, &labels, steps)?;
         push_with_rows(&mut tables, table)?;
     }
-    gather(alloc, tables)
+    collect(alloc, tables)
 }
 
 /// Adds a table that has rows.

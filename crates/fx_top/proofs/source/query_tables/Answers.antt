@@ -9,8 +9,8 @@ use Rattle.fx_top.specs.Run.{has_rows}
 use Rattle.fx_top.proofs.SourceLemmas.{get_or-other, tables_more, tables_found, tables_lawful}
 use Rattle.fx_top.proofs.source.query_tables.Goals as goal
 
-pub gather-requires : goal.gather-requires
-gather-requires g c =
+pub collect-requires : goal.collect-requires
+collect-requires g c =
     let wanted = filter (is_in c.args.query.now.bucket kind.Int) c.args.store.now.series in
     let tables = tables_found c.args.query.now c.args.store.now.series wanted c.as_slice-number-items.result.now c.in_ok-numbers.numbers c.loop-number.number-index c.loop-number.tables c.loop-number.invariant c.loop-number-test.false c.as_slice-number-items.ensures c.in_ok-numbers.ensures.found in
     subst (λ ts. AllByRecursion IsLawfulTable ts) (sym tables) (tables_lawful c.args.query.now wanted)
@@ -27,4 +27,4 @@ pub returns : goal.returns
 returns g c =
     let wanted = filter (is_in c.args.query.now.bucket kind.Int) c.args.store.now.series in
     let tables = tables_found c.args.query.now c.args.store.now.series wanted c.as_slice-number-items.result.now c.in_ok-numbers.numbers c.loop-number.number-index c.loop-number.tables c.loop-number.invariant c.loop-number-test.false c.as_slice-number-items.ensures c.in_ok-numbers.ensures.found in
-    subst (λ ts. IfOk c.gather.result (λ t. t ≡ gathered ts)) tables c.gather.ensures
+    subst (λ ts. IfOk c.collect.result (λ t. t ≡ gathered ts)) tables c.collect.ensures
