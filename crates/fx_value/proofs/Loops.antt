@@ -174,6 +174,20 @@ goes_answers {A} whole part before now after goes metered steady answer told =
       | Err why ↦ λ h. goes_stops whole part (λ v n. Gives v 0) before now last after metered why steady h
     ] told
 
+-- a part that is work and what follows from it: the work is ahead
+pub goes_into : {A B C : Type 0} (whole : ℕ → End C) (part : ℕ → End A) (middle : A → ℕ → End B) (next : B → ℕ → End C) (before now : Meter)
+    → Goes whole (λ n. and_then (and_then (part n) (λ v. middle v n)) (λ w. next w n)) before now
+    → Goes whole (λ n. and_then (part n) (λ v. and_then (middle v n) (λ w. next w n))) before now
+goes_into whole part middle next before now goes =
+    goes_along whole (λ n. and_then (and_then (part n) (λ v. middle v n)) (λ w. next w n)) (λ n. and_then (part n) (λ v. and_then (middle v n) (λ w. next w n))) before now
+    (λ n. then-then (part n) (λ v. middle v n) (λ w. next w n)) goes
+
+-- a part that is a value without ticks is done
+pub goes_past : {A B : Type 0} (whole : ℕ → End B) (value : A) (next : A → ℕ → End B) (before now : Meter)
+    → Goes whole (λ n. and_then (Gives value 0) (λ v. next v n)) before now → Goes whole (next value) before now
+goes_past whole value next before now goes =
+    goes_along whole (λ n. later 0 (next value n)) (next value) before now (λ n. later-zero (next value n)) goes
+
 -- ---- loops over lists
 
 -- a state goes through what is left, and its next item is ahead
