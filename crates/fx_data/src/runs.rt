@@ -103,21 +103,24 @@ fn lone(alloc: Global, key: &Key, row: Row) -> Result<Table, Memory>
     Ok(Table { key, rows })
 }
 
-fn with_table(tables: Vec<Table>, table: Table) -> Result<Vec<Table>, Memory>
+fn with_table(mut tables: Vec<Table>, table: Table) -> Result<Vec<Table>, Memory>
     ensures { IfOk result (λ ts. ts.items ≡ tables.items ++ table ∷ []) }
 {
-    let mut tables = tables;
     tables.push(table)?;
     Ok(tables)
 }
 
 /// The runs with one more row, which joins the last of them where that has its new key.
-fn with_row(alloc: Global, tables: Vec<Table>, key: &Key, row: Row) -> Result<Vec<Table>, Memory>
+fn with_row(
+    alloc: Global,
+    mut tables: Vec<Table>,
+    key: &Key,
+    row: Row,
+) -> Result<Vec<Table>, Memory>
     requires { HasRisingLabels key.now }
     ensures groups { IfOk result (λ ts. grouped ts.items ≡ joined (grouped tables.items) (alone (record { key = key.now; row = row }))) }
     ensures lawful { AllByRecursion IsLawfulTable tables.items → IfOk result (λ ts. AllByRecursion IsLawfulTable ts.items) }
 {
-    let mut tables = tables;
     match tables.pop() {
         None => with_table(tables, lone(alloc, key, row)?),
         Some(last) => {
