@@ -1,4 +1,5 @@
 mod CharacterLemmas
+pub mod ConvertLemmas
 mod DateLemmas
 mod PartLemmas
 mod RowLemmas
