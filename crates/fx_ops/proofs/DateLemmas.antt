@@ -7,40 +7,40 @@ use Rattle.fx_base.specs.declared.fault.FaultKind.TheVariants.{TimeRange}
 use Rattle.fx_time.specs.Calendar.{clock_of}
 use Rattle.fx_time.specs.Months.{month_of}
 use Rattle.fx_time.specs.Spans.{moment}
-use Rattle.fx_time.specs.Windows.{IsWindow, has_months, last_started, window_start, Holds}
+use Rattle.fx_time.specs.Windows.{IsWindow, has_months, window_start, Holds}
 use Rattle.fx_time.specs.declared.span.Span.{Span}
 use Rattle.fx_time.proofs.MonthLemmas.{clock_month}
 use Rattle.fx_time.proofs.TestLemmas.{int_tells, lt_holds, lt_fails, moment_in, moment_out}
 use Rattle.fx_time.proofs.WindowLemmas.{starts_after, started_months, started_nanos, stop_next, some_nanos}
 use Rattle.fx_value.specs.declared.scalar.Scalar.TheVariants.{Time}
-use Rattle.fx_ops.specs.Dates.{is_unit, time_from, truncated}
+use Rattle.fx_ops.specs.Dates.{is_unit, window_at, time_from, truncated}
 use Rattle.fx_ops.specs.Whole.{in_64_bits}
 
 -- a window starts after a time exactly where its number is past that of the time's window
-started : (unit : Span) (t : ℤ) → FitsSigned w64 t → IsWindow unit → (k : ℤ) → (t <ℤ window_start unit k) ↔ (last_started unit t <ℤ k)
+started : (unit : Span) (t : ℤ) → FitsSigned w64 t → IsWindow unit → (k : ℤ) → (t <ℤ window_start unit k) ↔ (window_at unit t <ℤ k)
 started unit t fits window k = elim (int_tells (pos 0) unit.months) [
   | inl months ↦
       let has : has_months unit ≡ true = lt_holds (pos 0) unit.months months in
       let month = month_of (clock_of t).date in
       let some : 0 < unsigned_abs unit.months = omega (arith, ints) in
       let e : unit.months ≡ pos (unsigned_abs unit.months) = omega (arith, ints) in
-      let number : last_started unit t ≡ int_div_euclid month unit.months = rw has refl in
+      let number : window_at unit t ≡ int_div_euclid month unit.months = rw has refl in
       rw number (started_months unit (unsigned_abs unit.months) some t month k has e (λ j. starts_after t month j (clock_month t fits)))
   | inr nanos ↦
       let has : has_months unit ≡ false = lt_fails (pos 0) unit.months nanos in
       let above = some_nanos unit window has in
       let some : 0 < unsigned_abs unit.nanos = omega (arith, ints) in
       let e : unit.nanos ≡ pos (unsigned_abs unit.nanos) = omega (arith, ints) in
-      let number : last_started unit t ≡ int_div_euclid t unit.nanos = rw has refl in
+      let number : window_at unit t ≡ int_div_euclid t unit.nanos = rw has refl in
       rw number (started_nanos unit (unsigned_abs unit.nanos) some t k has e)
 ]
 
 -- the window that holds a time has its number
-pub number_is : (unit : Span) (t k : ℤ) → FitsSigned w64 t → IsWindow unit → Holds unit unit t k → k ≡ last_started unit t
+pub number_is : (unit : Span) (t k : ℤ) → FitsSigned w64 t → IsWindow unit → Holds unit unit t k → k ≡ window_at unit t
 number_is unit t k fits window holds =
     let stop = stop_next unit k window in
     let below = (started unit t fits window (k +ℤ pos 1)).0 (rw stop at holds.1) in
-    elim (int_tells (last_started unit t) k) [
+    elim (int_tells (window_at unit t) k) [
       | inl past ↦ let after = (started unit t fits window k).1 past in absurd (omega (arith, ints, holds.0))
       | inr from ↦ omega (arith, ints)
     ]
@@ -59,10 +59,10 @@ unit_is unit false is = elim (is_unit unit) as (λ b. is_unit unit ≡ b → b �
   | false ↦ λ e. refl
 ] refl
 
-pub truncated-in : (unit : Span) (t start : ℤ) → is_unit unit ≡ true → start ≡ window_start unit (last_started unit t) → FitsSigned w64 start → truncated t unit ≡ Ok (Time start)
+pub truncated-in : (unit : Span) (t start : ℤ) → is_unit unit ≡ true → start ≡ window_start unit (window_at unit t) → FitsSigned w64 start → truncated t unit ≡ Ok (Time start)
 truncated-in unit t start window e fits = rw window (ap (λ z. time_from (moment z)) (sym e) ∙ ap time_from (moment_in start fits))
 
-pub truncated-out : (unit : Span) (t start : ℤ) → is_unit unit ≡ true → start ≡ window_start unit (last_started unit t) → (FitsSigned w64 start → ⊥) → truncated t unit ≡ Err TimeRange
+pub truncated-out : (unit : Span) (t start : ℤ) → is_unit unit ≡ true → start ≡ window_start unit (window_at unit t) → (FitsSigned w64 start → ⊥) → truncated t unit ≡ Err TimeRange
 truncated-out unit t start window e out = rw window (ap (λ z. time_from (moment z)) (sym e) ∙ ap time_from (moment_out start out))
 
 -- ---- integers of 64 bits

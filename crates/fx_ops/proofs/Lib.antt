@@ -1,5 +1,4 @@
 mod CharacterLemmas
-pub mod ConvertLemmas
 mod DateLemmas
 mod PartLemmas
 mod RowLemmas

@@ -1,10 +1,13 @@
 -- What the functions on times give, in UTC.
 use Rattle.std.specs.Prelude.{◌&&◌, ◌||◌, Bool, if◌then◌else◌, Option, Some, None, Result, Ok, Err, ℤ, pos, neg_ℤ, int_le, int_lt}
+use Rattle.std.specs.Int.{int_div_euclid}
 use Rattle.std.specs.Ordering.{int_eq}
 use Rattle.fx_base.specs.declared.fault.FaultKind.{FaultKind}
 use Rattle.fx_base.specs.declared.fault.FaultKind.TheVariants.{TimeRange, BadWindow}
+use Rattle.fx_time.specs.Calendar.{clock_of}
+use Rattle.fx_time.specs.Months.{month_of}
 use Rattle.fx_time.specs.Spans.{moment, span_after}
-use Rattle.fx_time.specs.Windows.{last_started, window_start}
+use Rattle.fx_time.specs.Windows.{has_months, window_start}
 use Rattle.fx_time.specs.declared.fields.TimeFields.{TimeFields}
 use Rattle.fx_time.specs.declared.span.Span.{Span}
 use Rattle.fx_value.specs.declared.scalar.Scalar.{Scalar}
@@ -36,10 +39,15 @@ is_unit span =
     (int_eq span.months (pos 0) && int_lt (pos 0) span.nanos)
     || (int_eq span.nanos (pos 0) && int_lt (pos 0) span.months && int_le span.months (pos 12_000))
 
--- the start of the window that holds the time, where that is no earlier than times are
+-- the number of the window that holds the time: how often the unit fits in from 1970 on, rounded down
+abbrev pub window_at : Span → ℤ → ℤ
+window_at unit t =
+    if has_months unit then int_div_euclid (month_of (clock_of t).date) unit.months else int_div_euclid t unit.nanos
+
+-- its start, where that is no earlier than times are
 abbrev pub truncated : ℤ → Span → Result Scalar FaultKind
 truncated t unit =
-    if is_unit unit then time_from (moment (window_start unit (last_started unit t))) else Err BadWindow
+    if is_unit unit then time_from (moment (window_start unit (window_at unit t))) else Err BadWindow
 
 -- the time that the span leads to
 abbrev pub added : ℤ → Span → Result Scalar FaultKind

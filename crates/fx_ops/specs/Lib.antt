@@ -4,7 +4,6 @@ pub mod Binary
 pub mod Call
 pub mod Convert
 pub mod Dates
-pub mod Kinds
 pub mod Operand
 pub mod Parts
 pub mod Texts

@@ -1,18 +1,16 @@
 ghost use Rattle.std.specs.Prelude.{◌≡◌, ◌↔◌, IsTrue, ℤ, Some, Ok, Err};
 ghost use Rattle.std.specs.Fmt.{signed_decimal};
 ghost use Rattle.fx_base.specs.declared.fault.FaultKind.TheVariants.{BadConversion};
-ghost use Rattle.fx_time.specs.Time.{time_text};
-ghost use Rattle.fx_time.specs.Value.{time_value};
+ghost use Rattle.fx_time.specs.Time.{IsTime, time_text};
 ghost use Rattle.fx_value.specs.declared.scalar.Kind.TheVariants as kind;
 ghost use Rattle.fx_value.specs.declared.scalar.Scalar.TheVariants as scalar;
-ghost use Rattle.fx_ops.specs.Answer.{Gives};
-ghost use Rattle.fx_ops.specs.Binary.{limited};
+ghost use Rattle.fx_ops.specs.Answer.{Gives, Tells};
 ghost use Rattle.fx_ops.specs.declared.fault.OpFault.TheVariants as fault;
-ghost use Rattle.fx_ops.specs.Convert.{is_convertible, converted, IsIntText, int_value, read_as, to_bool, to_int, to_text, to_time, bool_text, flag, named_flag};
+ghost use Rattle.fx_ops.specs.Convert.{is_convertible, Converts, IsIntText, Reads, IsToInt, IsToTime, to_bool, to_text, bool_text, flag, named_flag};
 
 use crate::fault::OpFault;
-use crate::limit::{kept, limited};
-use fx_base::FaultKind;
+use crate::limit::kept;
+use fx_base::{FaultKind, Text};
 use fx_time::{print_time, read_time};
 use fx_value::{Kind, Scalar};
 use std::alloc::Global;
@@ -21,7 +19,7 @@ use std::alloc::Global;
 /// integer other than 0 and 1 that is to be a Boolean, are BadConversion.
 pub fn convert(alloc: Global, to: Kind, a: &Scalar) -> Result<Scalar, OpFault>
     requires { IsTrue (is_convertible to a.now) }
-    ensures { Gives (converted to a.now) result }
+    ensures { Tells (Converts to a.now) result }
 {
     match to {
         Kind::Bool => to_bool(a),
@@ -75,7 +73,7 @@ fn named_flag(text: &str) -> Result<Scalar, OpFault>
 }
 
 fn to_int(a: &Scalar) -> Result<Scalar, OpFault>
-    ensures { Gives (to_int a.now) result }
+    ensures { Tells (IsToInt a.now) result }
 {
     match a {
         Scalar::Null => Ok(Scalar::Null),
@@ -87,7 +85,7 @@ fn to_int(a: &Scalar) -> Result<Scalar, OpFault>
 }
 
 fn int_in(text: &str) -> Result<Scalar, OpFault>
-    ensures { Gives (read_as scalar.Int (int_value text.now)) result }
+    ensures { Tells (Reads scalar.Int (IsIntText text.now)) result }
 {
     match read_int(text) {
         Some(n) => Ok(Scalar::Int(n)),
@@ -107,7 +105,7 @@ fn read_int(text: &str) -> Option<i64>
 
 fn to_time(a: &Scalar) -> Result<Scalar, OpFault>
     requires { IsTrue (is_convertible kind.Time a.now) }
-    ensures { Gives (to_time a.now) result }
+    ensures { Tells (IsToTime a.now) result }
 {
     match a {
         Scalar::Null => Ok(Scalar::Null),
@@ -119,7 +117,7 @@ fn to_time(a: &Scalar) -> Result<Scalar, OpFault>
 }
 
 fn time_in(text: &str) -> Result<Scalar, OpFault>
-    ensures { Gives (read_as scalar.Time (time_value text.now)) result }
+    ensures { Tells (Reads scalar.Time (IsTime text.now)) result }
 {
     match read_time(text.as_bytes()) {
         Some(t) => Ok(Scalar::Time(t)),
@@ -140,21 +138,21 @@ fn to_text(alloc: Global, a: &Scalar) -> Result<Scalar, OpFault>
 }
 
 fn printed_bool(alloc: Global, b: bool) -> Result<Scalar, OpFault>
-    ensures { Gives (limited (bool_text b)) result }
+    ensures { Gives (Ok (scalar.Text (bool_text b))) result }
 {
     let text = if b { "true" } else { "false" };
-    limited(alloc, text)
+    Ok(Scalar::Text(Text::of(alloc, text)?))
 }
 
 fn printed_int(alloc: Global, n: i64) -> Result<Scalar, OpFault>
-    ensures { Gives (limited (signed_decimal n)) result }
+    ensures { Gives (Ok (scalar.Text (signed_decimal n))) result }
 {
     let text = format!(in alloc; "{n}")?;
-    limited(alloc, text.as_str())
+    Ok(Scalar::Text(Text::of(alloc, text.as_str())?))
 }
 
 fn printed_time(alloc: Global, t: i64) -> Result<Scalar, OpFault>
-    ensures { Gives (limited (time_text t)) result }
+    ensures { Gives (Ok (scalar.Text (time_text t))) result }
 {
-    kept(&print_time(alloc, t)?)
+    Ok(Scalar::Text(print_time(alloc, t)?))
 }

@@ -25,5 +25,4 @@ pub use function::ScalarFn;
 pub use infix::binary;
 pub use operator::BinaryOp;
 pub use parts::split_text;
-pub use row::join_texts;
 pub use whole::negate;

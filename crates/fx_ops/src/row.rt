@@ -1,6 +1,6 @@
 //! Texts that are put together of others. One that would be too long is left before it is.
 ghost use Rattle.std.specs.Prelude.{◌≡◌, ◌<◌, ◌++◌, length, OnOk, IsErrOf};
-ghost use Rattle.std.specs.List.{concat, flat_map, join_by, repeat};
+ghost use Rattle.std.specs.List.{flat_map, join_by, repeat};
 ghost use Rattle.std.specs.String.{string_bytes};
 ghost use Rattle.fx_base.specs.declared.fault.FaultKind.{FaultKind};
 ghost use Rattle.fx_base.specs.declared.fault.FaultKind.TheVariants.{TooLarge};
@@ -10,7 +10,7 @@ ghost use Rattle.fx_ops.specs.declared.fault.OpFault.TheVariants.{Kind};
 
 use crate::fault::OpFault;
 use crate::limit::{MOST, limited};
-use fx_base::{FaultKind, List, Text};
+use fx_base::FaultKind;
 use fx_value::Scalar;
 use std::alloc::Global;
 
@@ -62,17 +62,6 @@ fn behind(alloc: Global, first: &str, others: &[&str], by: &str) -> Result<Scala
     add(&mut row, first)?;
     for other in others {
         add_both(&mut row, by, other)?;
-    }
-    limited(alloc, row.as_str())
-}
-
-/// The texts one behind another, or TooLarge where they have more than 1,048,576 bytes together.
-pub fn join_texts(alloc: Global, texts: &List<Text>) -> Result<Scalar, OpFault>
-    ensures { Gives (limited (concat texts.now)) result }
-{
-    let mut row = String::new(alloc);
-    for text in texts.as_slice() {
-        add(&mut row, text.as_str())?;
     }
     limited(alloc, row.as_str())
 }
