@@ -2,8 +2,9 @@
 ghost use Rattle.std.specs.Prelude.{◌≡◌, [], false, IfOk, option_map};
 ghost use Rattle.fx_schemes.specs.declared.list.Builtin.{Builtin};
 ghost use Rattle.fx_schemes.specs.Builtins.{IsLine};
-ghost use Rattle.fx_schemes.specs.Names.{IsId, needs_words};
+ghost use Rattle.fx_schemes.specs.Names.{IsId};
 ghost use Rattle.fx_schemes.specs.Scheme.{Says, IsSchemeOf, shown};
+ghost use Rattle.fx_schemes.specs.Signature.{needs_words};
 
 use crate::builtin_type::BuiltinType;
 use crate::given::LabelWords;
