@@ -12,5 +12,6 @@ pub mod Results
 pub mod Rolled
 pub mod RowLaws
 pub mod SchemeLaws
+pub mod SignatureLaws
 pub mod Sizes
 pub mod WindowLaws

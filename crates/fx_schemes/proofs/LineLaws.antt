@@ -8,7 +8,7 @@ use Rattle.fx_schemes.specs.declared.list.Builtin.TheVariants as b
 use Rattle.fx_schemes.specs.Builtins.{IsLine}
 use Rattle.fx_schemes.specs.Given.{text_at, list_at}
 use Rattle.fx_schemes.specs.Line.{Line, put}
-use Rattle.fx_schemes.specs.Names.{needs_words}
+use Rattle.fx_schemes.specs.Signature.{needs_words}
 
 abbrev bare : GroundRow
 bare l = g_absent

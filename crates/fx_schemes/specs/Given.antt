@@ -12,7 +12,7 @@ Given = List given.LabelWords
 -- the first entry of the label
 abbrev pub words_at : Given → Label → Option given.LabelWords
 words_at [] x = None
-words_at (g ∷ gs) x = if same_text g.label x then Some g else words_at gs x
+words_at (g ∷ gs) x = if same_text x g.label then Some g else words_at gs x
 
 -- the word of a list of one
 abbrev pub only_word : List Label → Option Label

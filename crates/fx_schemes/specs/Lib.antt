@@ -5,3 +5,4 @@ pub mod Line
 pub mod Names
 pub mod Plan
 pub mod Scheme
+pub mod Signature

@@ -1,5 +1,5 @@
 -- The names of the built-ins by package, and their numbers.
-use Rattle.std.specs.Prelude.{◌≡◌, ℕ, Bool, true, false, List, [], ◌∷◌, Option, None, Some, codes, if◌then◌else◌}
+use Rattle.std.specs.Prelude.{◌≡◌, ℕ, List, [], ◌∷◌, Option, None, Some, codes, if◌then◌else◌}
 use Rattle.fx_base.specs.Text.{same_text, text_cmp}
 use Rattle.fx_table.specs.CaseTable.{value_at}
 use Rattle.fx_types.specs.Term.{Label}
@@ -308,14 +308,3 @@ all =
 -- the number is that of this built-in
 abbrev pub IsId : ids.BuiltinId → Builtin → Type 0
 IsId id x = number_of x ≡ id.number
-
--- it has a label argument that no call may leave out
-abbrev pub needs_words : Builtin → Bool
-needs_words b.AggregateWindow = true
-needs_words b.Keep = true
-needs_words b.Drop = true
-needs_words b.Rename = true
-needs_words b.Duplicate = true
-needs_words b.Set = true
-needs_words b.Pivot = true
-needs_words _ = false

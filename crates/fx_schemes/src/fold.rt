@@ -5,7 +5,7 @@ ghost use Rattle.fx_schemes.specs.Folds.{fold_of};
 use fx_table::CaseTable;
 
 /// What the named function makes of a column.
-#[derive(Clone, Copy, Debug, PartialEq, Eq)]
+#[derive(Clone, Copy)]
 pub(crate) enum Fold {
     /// As `count`.
     Count,

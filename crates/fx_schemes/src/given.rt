@@ -21,7 +21,7 @@ pub(crate) fn words_at<'a>(given: &'a List<LabelWords>, label: &str) -> Option<&
     ensures { option_copied result ≡ words_at given.now label.now }
 {
     for entry in given.as_slice() {
-        if entry.label.as_str() == label {
+        if label == entry.label.as_str() {
             return Some(entry);
         }
     }

@@ -6,6 +6,7 @@ mod aggregates;
 mod builtin_type;
 mod columns;
 mod fold;
+mod form;
 mod given;
 mod joins;
 mod list;
@@ -20,6 +21,7 @@ mod terms;
 mod types;
 
 pub use builtin_type::{BuiltinType, KindBound};
+pub use form::{Form, form_of};
 pub use given::LabelWords;
 pub use list::Builtin;
 pub use name::{BuiltinId, builtin};

@@ -1,7 +1,7 @@
 //! The built-ins, in the order of `docs/builtins.md`.
 
 /// A built-in.
-#[derive(Clone, Copy, Debug, PartialEq, Eq)]
+#[derive(Clone, Copy, PartialEq, Eq)]
 pub enum Builtin {
     From,
     Texts,

@@ -64,44 +64,46 @@ macro_rules! names {
     ($($name:literal is $builtin:ident),*) => { [$(($name, Builtin::$builtin)),*] };
 }
 
+/// What makes or takes streams, and needs no import, by rising name.
+static STREAMS: [(&[u8], Builtin); 31] = names![
+    b"aggregateWindow" is AggregateWindow,
+    b"count" is Count,
+    b"cumulativeSum" is CumulativeSum,
+    b"difference" is Difference,
+    b"distinct" is Distinct,
+    b"drop" is Drop,
+    b"duplicate" is Duplicate,
+    b"elapsed" is Elapsed,
+    b"fill" is Fill,
+    b"filter" is Filter,
+    b"first" is First,
+    b"from" is From,
+    b"group" is Group,
+    b"keep" is Keep,
+    b"last" is Last,
+    b"limit" is Limit,
+    b"map" is Map,
+    b"max" is Max,
+    b"min" is Min,
+    b"pivot" is Pivot,
+    b"range" is Range,
+    b"reduce" is Reduce,
+    b"rename" is Rename,
+    b"set" is Set,
+    b"sort" is Sort,
+    b"spread" is Spread,
+    b"sum" is Sum,
+    b"tail" is Tail,
+    b"union" is Union,
+    b"window" is Window,
+    b"yield" is Yield
+];
+
 /// What makes or takes streams, and needs no import.
 fn stream_named(name: &[u8]) -> Option<Builtin>
     ensures { result ≡ stream_of name.now }
 {
-    let rows: [(&[u8], Builtin); 31] = names![
-        b"aggregateWindow" is AggregateWindow,
-        b"count" is Count,
-        b"cumulativeSum" is CumulativeSum,
-        b"difference" is Difference,
-        b"distinct" is Distinct,
-        b"drop" is Drop,
-        b"duplicate" is Duplicate,
-        b"elapsed" is Elapsed,
-        b"fill" is Fill,
-        b"filter" is Filter,
-        b"first" is First,
-        b"from" is From,
-        b"group" is Group,
-        b"keep" is Keep,
-        b"last" is Last,
-        b"limit" is Limit,
-        b"map" is Map,
-        b"max" is Max,
-        b"min" is Min,
-        b"pivot" is Pivot,
-        b"range" is Range,
-        b"reduce" is Reduce,
-        b"rename" is Rename,
-        b"set" is Set,
-        b"sort" is Sort,
-        b"spread" is Spread,
-        b"sum" is Sum,
-        b"tail" is Tail,
-        b"union" is Union,
-        b"window" is Window,
-        b"yield" is Yield
-    ];
-    match CaseTable::over(&rows) {
+    match CaseTable::over(&STREAMS) {
         Some(table) => table.find(&name).copied(),
         None => unreachable!(),
     }

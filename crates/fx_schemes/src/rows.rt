@@ -10,7 +10,7 @@ use crate::builtin_type::BuiltinType;
 use crate::given::{LabelWords, is_one_of};
 use crate::plan::{Plan, Variables, over, piped};
 use crate::simple::{Bound, Simple};
-use crate::terms::{and_param, of_row, of_two, one_param, param, record_over, stream_over};
+use crate::terms::{and_param, of_row, of_two, one_param, record_over, record_param, stream_over};
 use fx_base::{List, Memory};
 use fx_types::Ty;
 use std::alloc::Global;
@@ -123,8 +123,8 @@ pub(crate) fn reduce(alloc: Global) -> Result<BuiltinType, Memory>
 fn step(alloc: Global) -> Result<Ty, Memory>
     ensures { IfOk result (λ t. term t ≡ step_function) }
 {
-    let row = param(alloc, "r", record_over(alloc, &[], 0)?)?;
-    let before = param(alloc, "accumulator", record_over(alloc, &[], 1)?)?;
+    let row = record_param(alloc, "r", &[], 0)?;
+    let before = record_param(alloc, "accumulator", &[], 1)?;
     of_two(alloc, row, before, record_over(alloc, &[], 1)?)
 }
 

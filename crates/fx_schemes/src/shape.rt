@@ -1,5 +1,5 @@
 //! What works on lists of columns: grouping, sorting, keeping, renaming and pivoting.
-ghost use Rattle.std.specs.Prelude.{◌≡◌, ◌+◌, ◌++◌, ◌∷◌, [], true, IfOk, Some, length, option_map};
+ghost use Rattle.std.specs.Prelude.{◌≡◌, ◌+◌, ◌++◌, ◌∷◌, [], true, IfOk, Some, length, map, option_map};
 ghost use Rattle.fx_schemes.specs.declared.simple.Simple.TheVariants as simple;
 ghost use Rattle.fx_schemes.specs.declared.list.Builtin.TheVariants as builtin;
 ghost use Rattle.fx_schemes.specs.Builtins.{IsLine, OfGroup, OfSort, OfKeep, OfDrop, OfRename, OfPivot, differ, are_names, apart, are_apart};
@@ -30,13 +30,17 @@ fn numbered<'a>(alloc: Global, labels: &[&'a str]) -> Result<Vec<(&'a str, Optio
     Ok(cells)
 }
 
-/// The cells of these labels, without columns.
-fn cleared<'a>(alloc: Global, labels: &[&'a str]) -> Result<Vec<(&'a str, Option<Simple>)>, Memory>
-    ensures { IfOk result (λ v. cells_of v.items ≡ absents (texts_of labels.now)) }
+/// The same cell at each of these labels.
+fn alike<'a>(
+    alloc: Global,
+    labels: &[&'a str],
+    cell: Option<Simple>,
+) -> Result<Vec<(&'a str, Option<Simple>)>, Memory>
+    ensures { IfOk result (λ v. cells_of v.items ≡ map (λ x. (x, cell)) (texts_of labels.now)) }
 {
     let mut cells = Vec::new(alloc);
     for label in labels {
-        cells.push((*label, None))?;
+        cells.push((*label, cell))?;
     }
     Ok(cells)
 }
@@ -155,7 +159,7 @@ fn drop_these(alloc: Global, columns: &[&str]) -> Result<BuiltinType, Memory>
             bound: Bound::Free,
         },
     };
-    let made = cleared(alloc, columns)?;
+    let made = alike(alloc, columns, None)?;
     over(alloc, &plan, &[], &made)
 }
 
@@ -224,7 +228,7 @@ fn renamed<'a>(
     ensures { IfOk result (λ v. cells_of v.items ≡ columns_from 1 (texts_of news.now) ++ absents (texts_of olds.now)) }
 {
     let mut cells = numbered(alloc, news)?;
-    cells.extend_from_slice(&cleared(alloc, olds)?)?;
+    cells.extend_from_slice(&alike(alloc, olds, None)?)?;
     Ok(cells)
 }
 
@@ -297,18 +301,7 @@ fn pivoted<'a>(
     ensures { IfOk result (λ v. cells_of v.items ≡ columns_from 1 (texts_of keys.now) ++ (all_texts (texts_of names.now) ++ (value.now, Some (simple.Var 0)) ∷ [])) }
 {
     let mut cells = numbered(alloc, keys)?;
-    cells.extend_from_slice(&named(alloc, names)?)?;
+    cells.extend_from_slice(&alike(alloc, names, Some(Simple::Text))?)?;
     cells.push((value, Some(Simple::Var(0))))?;
-    Ok(cells)
-}
-
-/// The cells of these labels, which are texts.
-fn named<'a>(alloc: Global, labels: &[&'a str]) -> Result<Vec<(&'a str, Option<Simple>)>, Memory>
-    ensures { IfOk result (λ v. cells_of v.items ≡ all_texts (texts_of labels.now)) }
-{
-    let mut cells = Vec::new(alloc);
-    for label in labels {
-        cells.push((*label, Some(Simple::Text)))?;
-    }
     Ok(cells)
 }

@@ -1,5 +1,5 @@
 //! The types that lines name beside rows and functions of rows, and the bounds on their variables.
-ghost use Rattle.std.specs.Prelude.{◌≡◌, IfOk};
+ghost use Rattle.std.specs.Prelude.{◌≡◌, [], ◌∷◌, IfOk};
 ghost use Rattle.fx_types.specs.Term.{array};
 ghost use Rattle.fx_types.specs.Shape.{term, field_term};
 ghost use Rattle.fx_schemes.specs.Plan.{simple_term, cell_field, bounds_of, to_kinds, to_moments};
@@ -11,7 +11,7 @@ use fx_value::Kind;
 use std::alloc::Global;
 
 /// A type of a parameter or of a column.
-#[derive(Clone, Copy, Debug)]
+#[derive(Clone, Copy)]
 pub(crate) enum Simple {
     Bool,
     Int,
@@ -28,7 +28,7 @@ pub(crate) enum Simple {
 
 /// What the type variables of a line stand for. Variable 0 has the bound, and in `Moments`
 /// variable 1 too; all others are free.
-#[derive(Clone, Copy, Debug)]
+#[derive(Clone, Copy)]
 pub(crate) enum Bound {
     Free,
     /// Any column kind.
@@ -80,22 +80,32 @@ pub(crate) fn cell_ty(alloc: Global, cell: Option<Simple>) -> Result<FieldTy, Me
 pub(crate) fn bounds(alloc: Global, bound: Bound) -> Result<List<KindBound>, Memory>
     ensures { IfOk result (λ ks. ks ≡ bounds_of bound) }
 {
-    let mut bounds = List::empty(alloc);
     match bound {
-        Bound::Free => {}
-        Bound::Column => bounds.push(one(
-            alloc,
-            0,
-            &[Kind::Bool, Kind::Int, Kind::Text, Kind::Time],
-        )?)?,
-        Bound::Ordered => bounds.push(one(alloc, 0, &[Kind::Int, Kind::Time])?)?,
-        Bound::ToBool => bounds.push(one(alloc, 0, &[Kind::Bool, Kind::Int, Kind::Text])?)?,
-        Bound::ToTime => bounds.push(one(alloc, 0, &[Kind::Time, Kind::Int, Kind::Text])?)?,
-        Bound::Moments => {
-            bounds.push(moment(alloc, 0)?)?;
-            bounds.push(moment(alloc, 1)?)?;
-        }
+        Bound::Free => Ok(List::empty(alloc)),
+        Bound::Column => to_kinds(alloc, &[Kind::Bool, Kind::Int, Kind::Text, Kind::Time]),
+        Bound::Ordered => to_kinds(alloc, &[Kind::Int, Kind::Time]),
+        Bound::ToBool => to_kinds(alloc, &[Kind::Bool, Kind::Int, Kind::Text]),
+        Bound::ToTime => to_kinds(alloc, &[Kind::Time, Kind::Int, Kind::Text]),
+        Bound::Moments => to_moments(alloc),
     }
+}
+
+/// The one bound of variable 0 to these kinds.
+fn to_kinds(alloc: Global, kinds: &[Kind]) -> Result<List<KindBound>, Memory>
+    ensures { IfOk result (λ ks. ks ≡ to_kinds 0 kinds.now ∷ []) }
+{
+    let mut bounds = List::empty(alloc);
+    bounds.push(one(alloc, 0, kinds)?)?;
+    Ok(bounds)
+}
+
+/// The bounds of variables 0 and 1 to times and durations.
+fn to_moments(alloc: Global) -> Result<List<KindBound>, Memory>
+    ensures { IfOk result (λ ks. ks ≡ to_moments 0 ∷ to_moments 1 ∷ []) }
+{
+    let mut bounds = List::empty(alloc);
+    bounds.push(moment(alloc, 0)?)?;
+    bounds.push(moment(alloc, 1)?)?;
     Ok(bounds)
 }
 

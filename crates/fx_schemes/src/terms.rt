@@ -98,6 +98,19 @@ pub(crate) fn param(alloc: Global, label: &str, ty: Ty) -> Result<LabelTy, Memor
     })
 }
 
+/// The parameter of this label that is the record of the row of a variable, with these cells in
+/// place of what it has at their labels.
+pub(crate) fn record_param(
+    alloc: Global,
+    label: &str,
+    cells: &[(&str, Option<Simple>)],
+    row: u32,
+) -> Result<LabelTy, Memory>
+    ensures { IfOk result (λ l. label_term l ≡ labelled label.now (rec (fields_in (cells_of cells.now)) (row_variable row))) }
+{
+    param(alloc, label, record_over(alloc, cells, row)?)
+}
+
 /// The function with these required parameters.
 pub(crate) fn function(
     alloc: Global,

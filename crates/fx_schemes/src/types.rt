@@ -2,8 +2,10 @@
 ghost use Rattle.std.specs.Prelude.{◌≡◌, [], false, IfOk, option_map};
 ghost use Rattle.fx_schemes.specs.declared.list.Builtin.{Builtin};
 ghost use Rattle.fx_schemes.specs.Builtins.{IsLine};
-ghost use Rattle.fx_schemes.specs.Names.{IsId, needs_words};
+ghost use Rattle.fx_schemes.specs.Names.{IsId};
 ghost use Rattle.fx_schemes.specs.Scheme.{Says, IsSchemeOf, shown};
+ghost use Rattle.fx_schemes.specs.Signature.{needs_words, words_of};
+ghost use Rattle.fx_schemes.specs.Given.{Given};
 
 use crate::builtin_type::BuiltinType;
 use crate::given::LabelWords;
@@ -51,19 +53,9 @@ fn line(
     ensures { IfOk result (λ o. Says (IsLine builtin given.now) (option_map shown o)) }
 {
     match builtin {
-        Builtin::From => Ok(Some(sources::integers(alloc)?)),
-        Builtin::Texts => Ok(Some(sources::texts(alloc)?)),
-        Builtin::Bools => Ok(Some(sources::truths(alloc)?)),
-        Builtin::ArrayFrom => Ok(Some(sources::array_from(alloc)?)),
-        Builtin::Range => Ok(Some(rows::range(alloc)?)),
         Builtin::Filter => rows::filter(alloc, given),
-        Builtin::Map => Ok(Some(rows::map(alloc)?)),
         Builtin::Group => shape::group(alloc, given),
-        Builtin::Union => Ok(Some(sources::union(alloc)?)),
-        Builtin::Window => Ok(Some(rows::window(alloc)?)),
         Builtin::AggregateWindow => aggregates::aggregate_window(alloc, given),
-        Builtin::Reduce => Ok(Some(rows::reduce(alloc)?)),
-        Builtin::Yield => Ok(Some(rows::yielded(alloc)?)),
         Builtin::Count => aggregates::count(alloc, given),
         Builtin::Sum => aggregates::sum(alloc, given),
         Builtin::Spread => aggregates::sum(alloc, given),
@@ -79,48 +71,69 @@ fn line(
         Builtin::Set => columns::set(alloc, given),
         Builtin::Fill => columns::fill(alloc, given),
         Builtin::Sort => shape::sort(alloc, given),
-        Builtin::Limit => Ok(Some(columns::part(alloc)?)),
-        Builtin::Tail => Ok(Some(columns::part(alloc)?)),
         Builtin::Difference => columns::steps(alloc, given),
         Builtin::CumulativeSum => columns::steps(alloc, given),
         Builtin::Elapsed => columns::elapsed(alloc, given),
         Builtin::Pivot => shape::pivot(alloc, given),
-        Builtin::JoinInner => Ok(Some(joins::join(alloc)?)),
-        Builtin::JoinLeft => Ok(Some(joins::join(alloc)?)),
-        Builtin::JoinRight => Ok(Some(joins::join(alloc)?)),
-        Builtin::JoinFull => Ok(Some(joins::join(alloc)?)),
         Builtin::JoinTime => joins::join_time(alloc, given),
-        Builtin::True => Ok(Some(scalars::truth(alloc)?)),
-        Builtin::False => Ok(Some(scalars::truth(alloc)?)),
-        Builtin::Now => Ok(Some(scalars::now(alloc)?)),
-        Builtin::Int => Ok(Some(scalars::to_int(alloc)?)),
-        Builtin::String => Ok(Some(scalars::to_text(alloc)?)),
-        Builtin::Bool => Ok(Some(scalars::to_bool(alloc)?)),
-        Builtin::Time => Ok(Some(scalars::to_time(alloc)?)),
-        Builtin::Length => Ok(Some(scalars::length(alloc)?)),
-        Builtin::Contains => Ok(Some(scalars::contains(alloc)?)),
-        Builtin::ContainsStr => Ok(Some(scalars::text_test(alloc, "substr")?)),
-        Builtin::HasPrefix => Ok(Some(scalars::text_test(alloc, "prefix")?)),
-        Builtin::HasSuffix => Ok(Some(scalars::text_test(alloc, "suffix")?)),
-        Builtin::Strlen => Ok(Some(scalars::strlen(alloc)?)),
-        Builtin::Substring => Ok(Some(scalars::substring(alloc)?)),
-        Builtin::TrimPrefix => Ok(Some(scalars::trimmed(alloc, "prefix")?)),
-        Builtin::TrimSuffix => Ok(Some(scalars::trimmed(alloc, "suffix")?)),
-        Builtin::ReplaceAll => Ok(Some(scalars::replace_all(alloc)?)),
-        Builtin::Split => Ok(Some(scalars::split(alloc)?)),
-        Builtin::JoinStr => Ok(Some(scalars::join_str(alloc)?)),
-        Builtin::Repeat => Ok(Some(scalars::repeat(alloc)?)),
-        Builtin::Year => Ok(Some(scalars::time_part(alloc)?)),
-        Builtin::Month => Ok(Some(scalars::time_part(alloc)?)),
-        Builtin::MonthDay => Ok(Some(scalars::time_part(alloc)?)),
-        Builtin::YearDay => Ok(Some(scalars::time_part(alloc)?)),
-        Builtin::WeekDay => Ok(Some(scalars::time_part(alloc)?)),
-        Builtin::Hour => Ok(Some(scalars::time_part(alloc)?)),
-        Builtin::Minute => Ok(Some(scalars::time_part(alloc)?)),
-        Builtin::Second => Ok(Some(scalars::time_part(alloc)?)),
-        Builtin::Nanosecond => Ok(Some(scalars::time_part(alloc)?)),
-        Builtin::Truncate => Ok(Some(scalars::truncate(alloc)?)),
-        Builtin::Add => Ok(Some(scalars::moved(alloc, "to")?)),
-        Builtin::Sub => Ok(Some(scalars::moved(alloc, "from")?)),
+        _ => Ok(Some(plain_line(alloc, builtin)?)),
+    }
+}
+
+/// The type of a built-in without label arguments.
+fn plain_line(alloc: Global, builtin: Builtin) -> Result<BuiltinType, Memory>
+    requires { words_of builtin ≡ [] }
+    ensures { (w : Given) → IfOk result (λ t. IsSchemeOf (IsLine builtin w) (shown t)) }
+{
+    match builtin {
+        Builtin::From => sources::integers(alloc),
+        Builtin::Texts => sources::texts(alloc),
+        Builtin::Bools => sources::truths(alloc),
+        Builtin::ArrayFrom => sources::array_from(alloc),
+        Builtin::Range => rows::range(alloc),
+        Builtin::Map => rows::map(alloc),
+        Builtin::Union => sources::union(alloc),
+        Builtin::Window => rows::window(alloc),
+        Builtin::Reduce => rows::reduce(alloc),
+        Builtin::Yield => rows::yielded(alloc),
+        Builtin::Limit => columns::part(alloc),
+        Builtin::Tail => columns::part(alloc),
+        Builtin::JoinInner => joins::join(alloc),
+        Builtin::JoinLeft => joins::join(alloc),
+        Builtin::JoinRight => joins::join(alloc),
+        Builtin::JoinFull => joins::join(alloc),
+        Builtin::True => scalars::truth(alloc),
+        Builtin::False => scalars::truth(alloc),
+        Builtin::Now => scalars::now(alloc),
+        Builtin::Int => scalars::to_int(alloc),
+        Builtin::String => scalars::to_text(alloc),
+        Builtin::Bool => scalars::to_bool(alloc),
+        Builtin::Time => scalars::to_time(alloc),
+        Builtin::Length => scalars::length(alloc),
+        Builtin::Contains => scalars::contains(alloc),
+        Builtin::ContainsStr => scalars::text_test(alloc, "substr"),
+        Builtin::HasPrefix => scalars::text_test(alloc, "prefix"),
+        Builtin::HasSuffix => scalars::text_test(alloc, "suffix"),
+        Builtin::Strlen => scalars::strlen(alloc),
+        Builtin::Substring => scalars::substring(alloc),
+        Builtin::TrimPrefix => scalars::trimmed(alloc, "prefix"),
+        Builtin::TrimSuffix => scalars::trimmed(alloc, "suffix"),
+        Builtin::ReplaceAll => scalars::replace_all(alloc),
+        Builtin::Split => scalars::split(alloc),
+        Builtin::JoinStr => scalars::join_str(alloc),
+        Builtin::Repeat => scalars::repeat(alloc),
+        Builtin::Year => scalars::time_part(alloc),
+        Builtin::Month => scalars::time_part(alloc),
+        Builtin::MonthDay => scalars::time_part(alloc),
+        Builtin::YearDay => scalars::time_part(alloc),
+        Builtin::WeekDay => scalars::time_part(alloc),
+        Builtin::Hour => scalars::time_part(alloc),
+        Builtin::Minute => scalars::time_part(alloc),
+        Builtin::Second => scalars::time_part(alloc),
+        Builtin::Nanosecond => scalars::time_part(alloc),
+        Builtin::Truncate => scalars::truncate(alloc),
+        Builtin::Add => scalars::moved(alloc, "to"),
+        Builtin::Sub => scalars::moved(alloc, "from"),
+        _ => unreachable!(),
     }
 }
