@@ -8,6 +8,8 @@ mod operators;
 #[cfg(test)]
 mod outside;
 #[cfg(test)]
+mod rows;
+#[cfg(test)]
 mod top;
 #[cfg(test)]
 mod trees;

@@ -1,6 +1,8 @@
 //! Operators, conversions and functions on values: one answer of each call.
 use fx_base::{List, Memory, Text};
-use fx_ops::{BinaryOp, OpFault, ScalarFn, binary, convert, negate, scalar_call, split_text};
+use fx_ops::{
+    BinaryOp, OpFault, ScalarFn, binary, convert, join_texts, negate, scalar_call, split_text,
+};
 use fx_time::Span;
 use fx_value::{Kind, Scalar};
 use std::alloc::Global;
@@ -59,5 +61,7 @@ fn texts_are_taken_apart(rt: HostRuntime) -> Result<(), Fail> {
     assert_eq!(rt; shown(alloc, cut)?.as_str(), "bc");
     let parts = split_text(alloc, &Text::of(alloc, "a,b,,")?, &Text::of(alloc, ",")?)?;
     assert_eq!(rt; parts.as_slice().len(), 4);
+    let joined = join_texts(alloc, &parts);
+    assert_eq!(rt; shown(alloc, joined)?.as_str(), "ab");
     Ok(())
 }

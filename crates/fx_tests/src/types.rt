@@ -1,6 +1,6 @@
 //! Types of built-ins, and terms made equal.
 use fx_base::{Boxed, List, Memory, Text};
-use fx_schemes::{BuiltinType, LabelWords, builtin, scheme_at};
+use fx_schemes::{BuiltinType, Form, LabelWords, builtin, form_of, scheme_at};
 use fx_types::{FieldTy, LabelField, Rest, RowTy, Ty};
 use fx_unify::{Bindings, UnifyFault, unify};
 use fx_value::Kind;
@@ -72,6 +72,14 @@ fn at_words(
     }
 }
 
+/// How a call of the built-in without a package writes the label argument.
+fn form(alloc: Global, name: &str, label: &str) -> Result<Option<Form>, Fail> {
+    match builtin(&Text::of(alloc, "")?, &Text::of(alloc, name)?) {
+        Some(id) => Ok(form_of(id, &Text::of(alloc, label)?)),
+        None => Ok(None),
+    }
+}
+
 #[test]
 fn built_ins_have_lines(rt: HostRuntime) -> Result<(), Fail> {
     let alloc = rt.alloc();
@@ -79,5 +87,6 @@ fn built_ins_have_lines(rt: HostRuntime) -> Result<(), Fail> {
     assert!(rt; builtin(&empty, &Text::of(alloc, "pivto")?).is_none());
     assert!(rt; at_words(alloc, "keep", "columns", "a")?.is_some());
     assert!(rt; at_words(alloc, "aggregateWindow", "fn", "map")?.is_none());
+    assert_eq!(rt; form(alloc, "aggregateWindow", "fn")?, Some(Form::Name));
     Ok(())
 }

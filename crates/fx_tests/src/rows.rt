@@ -1,0 +1,65 @@
+//! Rows, their changes, and their way into tables.
+use fx_base::{List, Memory, Text};
+use fx_data::{Key, KeyedRow, Tables, regroup};
+use fx_value::{Change, Row, Scalar, change_rows};
+use std::alloc::Global;
+use std::test::Fail;
+
+/// The row of one integer at `n`.
+fn numbered(alloc: Global, n: i64) -> Result<Row, Memory> {
+    let mut row = Row::empty(alloc)?;
+    row.set(alloc, Text::of(alloc, "n")?, Scalar::Int(n))?;
+    Ok(row)
+}
+
+#[test]
+fn a_row_is_changed_apart_from_its_copy(rt: HostRuntime) -> Result<(), Fail> {
+    let alloc = rt.alloc();
+    let label = Text::of(alloc, "n")?;
+    let row = numbered(alloc, 7)?;
+    let mut copy = row.copy()?;
+    assert_eq!(rt; copy.take_out(alloc, &label)?, Some(Scalar::Int(7)));
+    assert_eq!(rt; copy.get(&label), None);
+    assert_eq!(rt; row.get(&label), Some(&Scalar::Int(7)));
+    assert_eq!(rt; row.labels(alloc)?.as_slice().len(), 1);
+    Ok(())
+}
+
+#[test]
+fn changes_go_through_all_rows(rt: HostRuntime) -> Result<(), Fail> {
+    let alloc = rt.alloc();
+    let mut rows = List::empty(alloc);
+    rows.push(numbered(alloc, 1)?)?;
+    rows.push(numbered(alloc, 2)?)?;
+    let label = Text::of(alloc, "n")?;
+    let changes = [Change::Remove { label }];
+    let rows = change_rows(alloc, rows, &changes)?;
+    for row in rows.as_slice() {
+        assert_eq!(rt; row.get(&Text::of(alloc, "n")?), None);
+    }
+    Ok(())
+}
+
+/// Two rows under the key without entries, as tables.
+fn regrouped(alloc: Global, first: Row, second: Row) -> Result<Tables, Memory> {
+    let mut rows = List::empty(alloc);
+    for row in vec![in alloc; first, second]? {
+        let entries = List::empty(alloc);
+        let key = Key { entries };
+        rows.push(KeyedRow { key, row })?;
+    }
+    regroup(alloc, rows)
+}
+
+#[test]
+fn rows_of_one_key_make_one_table(rt: HostRuntime) -> Result<(), Fail> {
+    let alloc = rt.alloc();
+    let tables = regrouped(alloc, numbered(alloc, 1)?, numbered(alloc, 2)?)?;
+    let copy = tables.copy(alloc)?;
+    assert_eq!(rt; copy.len(), 1);
+    assert_eq!(rt;
+        copy.at(0).map(|table| table.rows.as_slice().len()),
+        Some(2)
+    );
+    Ok(())
+}
