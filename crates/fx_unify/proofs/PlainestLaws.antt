@@ -1,5 +1,5 @@
 -- What variables that nothing is bound to stand for in the least solution.
-use Rattle.std.proofs.Common.{◌≡◌, ◌⊎◌, inl, inr, refl, sym, ap, ◌∙◌, ℕ, Bool, true, false, List, None}
+use Rattle.std.proofs.Common.{◌≡◌, inl, inr, refl, sym, ap, ◌∙◌, ℕ, Bool, true, false, List, None}
 use mathlib.Core.Bool.{true≢false}
 use Rattle.fx_types.specs.Ground.{g_span, is_column}
 use Rattle.fx_types.specs.Instance.{Solution}

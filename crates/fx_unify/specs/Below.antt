@@ -1,5 +1,5 @@
 -- What speaks of no number from one on.
-use Rattle.std.specs.Prelude.{◌≡◌, ℕ, ◌+◌, ◌≤◌, List, [], ◌∷◌, Some}
+use Rattle.std.specs.Prelude.{ℕ, ◌+◌, ◌≤◌, List, [], ◌∷◌}
 use Rattle.std.specs.Coded.{×_prop, Π_prop, Unit-prop, le_prop}
 use Rattle.fx_types.specs.declared.term.Ty as types
 use Rattle.fx_types.specs.Agree.{Agree}

@@ -96,10 +96,10 @@ impl Store {
             pipe: other_pipe,
             result: other,
         } = right;
-        let a = labels_row(alloc, required)?;
-        let b = labels_row(alloc, others)?;
         put_off(&mut self.work, piped(pipe), piped(other_pipe))?;
         put_off(&mut self.work, Field::Is(result), Field::Is(other))?;
+        let a = labels_row(alloc, required)?;
+        let b = labels_row(alloc, others)?;
         self.compare(alloc, a, b)?;
         Ok(())
     }

@@ -12,7 +12,6 @@ use crate::bindings::Bindings;
 use crate::bound::Bound;
 use crate::field::Field;
 use crate::numbers::numbers;
-use crate::sorts::Sorts;
 use crate::work::put_off;
 use fx_base::{List, Memory};
 use fx_types::Ty;

@@ -1,4 +1,3 @@
-use Rattle.std.proofs.Common.{◌≡◌}
 use Rattle.fx_types.specs.Term.{type_variable}
 use Rattle.fx_unify.specs.Part.{p_is}
 use Rattle.fx_unify.proofs.JoinLaws.{LeadsTo}

@@ -1,4 +1,4 @@
-use Rattle.std.proofs.Common.{◌≡◌, refl, []}
+use Rattle.std.proofs.Common.{refl, []}
 use Rattle.fx_unify.proofs.KeptLaws.{none_counted}
 use Rattle.fx_unify.proofs.RunLaws.{looked}
 use Rattle.fx_unify.proofs.store.Store.look.Goals as goal
