@@ -21,15 +21,22 @@ macro_rules! folds {
     ($($name:literal is $fold:ident),*) => { [$(($name, Fold::$fold)),*] };
 }
 
+/// The functions by rising name.
+static FOLDS: [(&[u8], Fold); 7] = folds![
+    b"count" is Count,
+    b"first" is End,
+    b"last" is End,
+    b"max" is Extreme,
+    b"min" is Extreme,
+    b"spread" is Sum,
+    b"sum" is Sum
+];
+
 /// What the function of this name makes, or None where no function has it.
 pub(crate) fn fold_of(name: &[u8]) -> Option<Fold>
     ensures { result ≡ fold_of name.now }
 {
-    let rows: [(&[u8], Fold); 7] = folds![
-        b"count" is Count, b"first" is End, b"last" is End, b"max" is Extreme,
-        b"min" is Extreme, b"spread" is Sum, b"sum" is Sum
-    ];
-    match CaseTable::over(&rows) {
+    match CaseTable::over(&FOLDS) {
         Some(table) => table.find(&name).copied(),
         None => unreachable!(),
     }

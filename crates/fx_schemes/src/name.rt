@@ -109,113 +109,125 @@ fn stream_named(name: &[u8]) -> Option<Builtin>
     }
 }
 
+/// What takes no stream, and needs no import, by rising name.
+static VALUES: [(&[u8], Builtin); 9] = names![
+    b"bool" is Bool,
+    b"contains" is Contains,
+    b"false" is False,
+    b"int" is Int,
+    b"length" is Length,
+    b"now" is Now,
+    b"string" is String,
+    b"time" is Time,
+    b"true" is True
+];
+
 /// What takes no stream, and needs no import.
 fn value_named(name: &[u8]) -> Option<Builtin>
     ensures { result ≡ value_of name.now }
 {
-    let rows: [(&[u8], Builtin); 9] = names![
-        b"bool" is Bool,
-        b"contains" is Contains,
-        b"false" is False,
-        b"int" is Int,
-        b"length" is Length,
-        b"now" is Now,
-        b"string" is String,
-        b"time" is Time,
-        b"true" is True
-    ];
-    match CaseTable::over(&rows) {
+    match CaseTable::over(&VALUES) {
         Some(table) => table.find(&name).copied(),
         None => unreachable!(),
     }
 }
+
+/// Package `array`, by rising name.
+static ARRAYS: [(&[u8], Builtin); 1] = names![
+    b"from" is ArrayFrom
+];
 
 /// Package `array`.
 fn array_named(name: &[u8]) -> Option<Builtin>
     ensures { result ≡ array_of name.now }
 {
-    let rows: [(&[u8], Builtin); 1] = names![
-        b"from" is ArrayFrom
-    ];
-    match CaseTable::over(&rows) {
+    match CaseTable::over(&ARRAYS) {
         Some(table) => table.find(&name).copied(),
         None => unreachable!(),
     }
 }
+
+/// Package `date`, by rising name.
+static DATES: [(&[u8], Builtin); 12] = names![
+    b"add" is Add,
+    b"hour" is Hour,
+    b"minute" is Minute,
+    b"month" is Month,
+    b"monthDay" is MonthDay,
+    b"nanosecond" is Nanosecond,
+    b"second" is Second,
+    b"sub" is Sub,
+    b"truncate" is Truncate,
+    b"weekDay" is WeekDay,
+    b"year" is Year,
+    b"yearDay" is YearDay
+];
 
 /// Package `date`.
 fn date_named(name: &[u8]) -> Option<Builtin>
     ensures { result ≡ date_of name.now }
 {
-    let rows: [(&[u8], Builtin); 12] = names![
-        b"add" is Add,
-        b"hour" is Hour,
-        b"minute" is Minute,
-        b"month" is Month,
-        b"monthDay" is MonthDay,
-        b"nanosecond" is Nanosecond,
-        b"second" is Second,
-        b"sub" is Sub,
-        b"truncate" is Truncate,
-        b"weekDay" is WeekDay,
-        b"year" is Year,
-        b"yearDay" is YearDay
-    ];
-    match CaseTable::over(&rows) {
+    match CaseTable::over(&DATES) {
         Some(table) => table.find(&name).copied(),
         None => unreachable!(),
     }
 }
+
+/// Package `join`, by rising name.
+static JOINS: [(&[u8], Builtin); 5] = names![
+    b"full" is JoinFull,
+    b"inner" is JoinInner,
+    b"left" is JoinLeft,
+    b"right" is JoinRight,
+    b"time" is JoinTime
+];
 
 /// Package `join`.
 fn join_named(name: &[u8]) -> Option<Builtin>
     ensures { result ≡ join_of name.now }
 {
-    let rows: [(&[u8], Builtin); 5] = names![
-        b"full" is JoinFull,
-        b"inner" is JoinInner,
-        b"left" is JoinLeft,
-        b"right" is JoinRight,
-        b"time" is JoinTime
-    ];
-    match CaseTable::over(&rows) {
+    match CaseTable::over(&JOINS) {
         Some(table) => table.find(&name).copied(),
         None => unreachable!(),
     }
 }
+
+/// Package `series`, by rising name.
+static SERIES: [(&[u8], Builtin); 2] = names![
+    b"bools" is Bools,
+    b"texts" is Texts
+];
 
 /// Package `series`.
 fn series_named(name: &[u8]) -> Option<Builtin>
     ensures { result ≡ series_of name.now }
 {
-    let rows: [(&[u8], Builtin); 2] = names![
-        b"bools" is Bools,
-        b"texts" is Texts
-    ];
-    match CaseTable::over(&rows) {
+    match CaseTable::over(&SERIES) {
         Some(table) => table.find(&name).copied(),
         None => unreachable!(),
     }
 }
 
+/// Package `strings`, by rising name.
+static STRINGS: [(&[u8], Builtin); 11] = names![
+    b"containsStr" is ContainsStr,
+    b"hasPrefix" is HasPrefix,
+    b"hasSuffix" is HasSuffix,
+    b"joinStr" is JoinStr,
+    b"repeat" is Repeat,
+    b"replaceAll" is ReplaceAll,
+    b"split" is Split,
+    b"strlen" is Strlen,
+    b"substring" is Substring,
+    b"trimPrefix" is TrimPrefix,
+    b"trimSuffix" is TrimSuffix
+];
+
 /// Package `strings`.
 fn string_named(name: &[u8]) -> Option<Builtin>
     ensures { result ≡ string_of name.now }
 {
-    let rows: [(&[u8], Builtin); 11] = names![
-        b"containsStr" is ContainsStr,
-        b"hasPrefix" is HasPrefix,
-        b"hasSuffix" is HasSuffix,
-        b"joinStr" is JoinStr,
-        b"repeat" is Repeat,
-        b"replaceAll" is ReplaceAll,
-        b"split" is Split,
-        b"strlen" is Strlen,
-        b"substring" is Substring,
-        b"trimPrefix" is TrimPrefix,
-        b"trimSuffix" is TrimSuffix
-    ];
-    match CaseTable::over(&rows) {
+    match CaseTable::over(&STRINGS) {
         Some(table) => table.find(&name).copied(),
         None => unreachable!(),
     }

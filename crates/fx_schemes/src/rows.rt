@@ -1,7 +1,8 @@
 //! What keeps, makes and collects rows.
-ghost use Rattle.std.specs.Prelude.{◌≡◌, IfOk, [], option_map};
-ghost use Rattle.fx_types.specs.Shape.{term};
-ghost use Rattle.fx_schemes.specs.Plan.{step_function};
+ghost use Rattle.std.specs.Prelude.{◌≡◌, IfOk, [], codes, map, option_map};
+ghost use Rattle.fx_types.specs.Shape.{term, label_term, labels_of};
+ghost use Rattle.fx_types.specs.Term.{stream, no_fields, row_variable};
+ghost use Rattle.fx_schemes.specs.Plan.{piped_scheme, step_function};
 ghost use Rattle.fx_schemes.specs.declared.list.Builtin.TheVariants as builtin;
 ghost use Rattle.fx_schemes.specs.Builtins.{IsLine, OfRows};
 ghost use Rattle.fx_schemes.specs.Scheme.{Says, IsSchemeOf, shown};
@@ -12,7 +13,7 @@ use crate::plan::{Plan, Variables, over, piped};
 use crate::simple::{Bound, Simple};
 use crate::terms::{and_param, of_row, of_two, one_param, record_over, record_param, stream_over};
 use fx_base::{List, Memory};
-use fx_types::Ty;
+use fx_types::{LabelTy, Ty};
 use std::alloc::Global;
 
 const TIME: (&str, Option<Simple>) = ("_time", Some(Simple::Time));
@@ -82,41 +83,41 @@ pub(crate) fn filter(alloc: Global, given: &List<LabelWords>) -> Result<Option<B
 fn filter_dropping(alloc: Global) -> Result<BuiltinType, Memory>
     ensures { IfOk result (λ t. IsSchemeOf OfRows (shown t)) }
 {
-    let input = stream_over(alloc, &[], 0)?;
     let test = of_row(alloc, 0, Ty::Bool)?;
     let required = one_param(alloc, "fn", test)?;
-    let gives = stream_over(alloc, &[], 0)?;
-    piped(
-        alloc,
-        "tables",
-        input,
-        required,
-        gives,
-        &rows!(1, &["onEmpty"]),
-    )
+    rows_to_rows(alloc, required, 0, &rows!(1, &["onEmpty"]))
 }
 
 /// `map`.
 pub(crate) fn map(alloc: Global) -> Result<BuiltinType, Memory>
     ensures { IfOk result (λ t. IsSchemeOf (IsLine builtin.Map []) (shown t)) }
 {
-    let input = stream_over(alloc, &[], 0)?;
     let change = of_row(alloc, 0, record_over(alloc, &[], 1)?)?;
     let required = one_param(alloc, "fn", change)?;
-    let gives = stream_over(alloc, &[], 1)?;
-    piped(alloc, "tables", input, required, gives, &rows!(2, &[]))
+    rows_to_rows(alloc, required, 1, &rows!(2, &[]))
 }
 
 /// `reduce`.
 pub(crate) fn reduce(alloc: Global) -> Result<BuiltinType, Memory>
     ensures { IfOk result (λ t. IsSchemeOf (IsLine builtin.Reduce []) (shown t)) }
 {
-    let input = stream_over(alloc, &[], 0)?;
     let identity = one_param(alloc, "identity", record_over(alloc, &[], 1)?)?;
-    let step = step(alloc)?;
-    let required = and_param(alloc, identity, "fn", step)?;
-    let gives = stream_over(alloc, &[], 1)?;
-    piped(alloc, "tables", input, required, gives, &rows!(2, &[]))
+    let required = and_param(alloc, identity, "fn", step(alloc)?)?;
+    rows_to_rows(alloc, required, 1, &rows!(2, &[]))
+}
+
+/// From streams of the row of variable 0 to streams of the row of this variable.
+fn rows_to_rows(
+    alloc: Global,
+    required: List<LabelTy>,
+    row: u32,
+    plan: &Plan,
+) -> Result<BuiltinType, Memory>
+    ensures { IfOk result (λ t. shown t ≡ piped_scheme (codes "tables") (stream no_fields (row_variable 0)) (labels_of (map label_term required)) (stream no_fields (row_variable row)) plan.now) }
+{
+    let input = stream_over(alloc, &[], 0)?;
+    let gives = stream_over(alloc, &[], row)?;
+    piped(alloc, "tables", input, required, gives, plan)
 }
 
 /// The function of a row and what was made so far.

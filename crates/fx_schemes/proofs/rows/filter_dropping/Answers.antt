@@ -10,10 +10,10 @@ use Rattle.fx_schemes.proofs.rows.filter_dropping.Goals as goal
 
 pub returns : goal.returns
 returns c =
-    by_scheme _ c.piped.result _
-    (along shown c.piped.result _ _
-    (same_piped (codes "tables") (codes "onEmpty" ∷ []) [] (free 1) _ _ _ _ _ _ c.in_ok-input.ensures
+    by_scheme _ c.rows_to_rows.result _
+    (along shown c.rows_to_rows.result _ _
+    (same_piped (codes "tables") (codes "onEmpty" ∷ []) [] (free 1) _ _ _ _ _ _ refl
     (c.in_ok-required.ensures ∙ ap (λ t. labelled (codes "fn") t ∷ []) (c.in_ok-test.ensures ∙ ap (row_function 0) term_bool))
-    c.in_ok-gives.ensures)
-    c.piped.ensures)
+    refl)
+    c.rows_to_rows.ensures)
     (built _ _ (lit≤ tt) refl (lit≤ tt) tt (λ L. (λ h. (h.0.row_of 0, h.2), λ d. (solution g_int d.0, tt, d.1))))
