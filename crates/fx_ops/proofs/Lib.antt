@@ -1,5 +1,7 @@
 mod CharacterLemmas
 mod DateLemmas
+mod IntTextLaws
+mod KindLaws
 mod PartLemmas
 mod RowLemmas
 mod TextLemmas

@@ -1,11 +1,12 @@
 -- A search from the left finds the parts of a text.
 use Rattle.std.proofs.Common.{◌≡◌, ℕ, zero, suc, ◌-◌, ◌<◌, ◌≤◌, List, [], ◌∷◌, ◌++◌, length, take, drop, map, inl, inr, Bor, refl, sym, ap, ◌∙◌, arith, length-append, append_assoc, append-nil}
-use Rattle.std.specs.Prelude.{IfOk, Result, Ok, Err}
+use Rattle.std.specs.Prelude.{IfOk, IsTrue, Result, Ok, Err}
 use Rattle.std.specs.List.{flat_map, join_by, list_all}
 use Rattle.std.proofs.Math.Dec.{eqb-suc-zero}
 use Rattle.std.specs.Str.Pattern.{LacksTextAt}
 use Rattle.fx_ops.specs.Answer.{Gives}
-use Rattle.fx_ops.specs.Parts.{in_first, parts_past, parts, is_short, all_limited}
+use Rattle.fx_ops.specs.Limit.{is_short}
+use Rattle.fx_ops.specs.Parts.{in_first, parts_past, parts, all_limited}
 use Rattle.fx_ops.specs.Texts.{replaced}
 use Rattle.fx_ops.specs.declared.fault.OpFault.{OpFault}
 use Rattle.fx_ops.proofs.TextLemmas.{begins, bool_tells}
@@ -123,5 +124,13 @@ pub limited-whole : (by text : List ℕ) (found : List (List ℕ)) (r : Result (
 limited-whole by text found (Err fault) is gives = tt
 limited-whole by text found (Ok texts) is gives = elim (bool_tells (list_all is_short found)) [
   | inl short ↦ let same : found ≡ texts = (let e = rw short at gives in cc) in ap (join_by (λ p. p) by) (sym same ∙ is) ∙ parts-whole by text
+  | inr long ↦ let e = rw long at gives in absurd cc
+]
+
+-- none of the parts that are answered is too long
+pub limited-short : (found : List (List ℕ)) (r : Result (List (List ℕ)) OpFault) → Gives (all_limited found) r → IfOk r (λ texts. IsTrue (list_all is_short texts))
+limited-short found (Err fault) gives = tt
+limited-short found (Ok texts) gives = elim (bool_tells (list_all is_short found)) [
+  | inl short ↦ let same : found ≡ texts = (let e = rw short at gives in cc) in ap (list_all is_short) (sym same) ∙ short
   | inr long ↦ let e = rw long at gives in absurd cc
 ]

@@ -9,9 +9,3 @@ abbrev pub Gives : {A : Type 0} → Result A FaultKind → Result A OpFault → 
 Gives wanted (Ok value) = wanted ≡ Ok value
 Gives wanted (Err (op.Kind kind)) = wanted ≡ Err kind
 Gives wanted (Err op.Memory) = Unit {0}
-
--- what a call answers is so, unless it is want of memory
-abbrev pub Tells : {A : Type 0} → (Result A FaultKind → Type 0) → Result A OpFault → Type 0
-Tells IsWanted (Ok value) = IsWanted (Ok value)
-Tells IsWanted (Err (op.Kind kind)) = IsWanted (Err kind)
-Tells IsWanted (Err op.Memory) = Unit {0}

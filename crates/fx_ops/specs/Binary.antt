@@ -1,8 +1,8 @@
 -- Operators between two operands.
-use Rattle.std.specs.Prelude.{◌≡◌, ◌++◌, nat_le, not, if◌then◌else◌, length, List, ℕ, Option, None, Some, IsSome, Result, Ok, Err, ◌+ℤ◌, ◌-ℤ◌, ◌*ℤ◌}
+use Rattle.std.specs.Prelude.{◌&&◌, ◌++◌, not, Bool, true, Option, None, Some, Result, Ok, ◌+ℤ◌, ◌-ℤ◌, ◌*ℤ◌}
+use Rattle.std.specs.Option.{is_some}
 use Rattle.std.specs.Ordering.{is_eq, is_lt, is_gt}
 use Rattle.fx_base.specs.declared.fault.FaultKind.{FaultKind}
-use Rattle.fx_base.specs.declared.fault.FaultKind.TheVariants.{TooLarge}
 use Rattle.fx_value.specs.declared.scalar.Kind.{Kind}
 use Rattle.fx_value.specs.declared.scalar.Kind.TheVariants as kind
 use Rattle.fx_value.specs.declared.scalar.Scalar.{Scalar}
@@ -12,6 +12,8 @@ use Rattle.fx_ops.specs.declared.operator.BinaryOp.{BinaryOp}
 use Rattle.fx_ops.specs.declared.operator.BinaryOp.TheVariants.{Add, Sub, Mul, Div, Rem, Eq, Ne, Lt, Le, Gt, Ge}
 use Rattle.fx_ops.specs.declared.work.Work.{Work}
 use Rattle.fx_ops.specs.declared.work.Work.TheVariants.{Plus, Minus, Times, Over, Rest, Join, Equal, Differ, Less, AtMost, More, AtLeast}
+use Rattle.fx_ops.specs.Kinds.{is_kind}
+use Rattle.fx_ops.specs.Limit.{limited}
 use Rattle.fx_ops.specs.Operand.{number, bytes}
 use Rattle.fx_ops.specs.Whole.{whole, quotient, remainder}
 
@@ -39,10 +41,6 @@ work_of Ge kind.Text = Some AtLeast
 work_of Ge kind.Time = Some AtLeast
 work_of _ _ = None
 
--- the text, where it has at most 1,048,576 bytes
-abbrev pub limited : List ℕ → Result Scalar FaultKind
-limited text = if nat_le (length text) 1_048_576 then Ok (scalar.Text text) else Err TooLarge
-
 -- what the work gives
 abbrev pub worked : Work → Scalar → Scalar → Result Scalar FaultKind
 worked Plus a b = whole (number a +ℤ number b)
@@ -58,12 +56,29 @@ worked AtMost a b = Ok (scalar.Bool (not (is_gt (scalar_cmp a b))))
 worked More a b = Ok (scalar.Bool (is_gt (scalar_cmp a b)))
 worked AtLeast a b = Ok (scalar.Bool (not (is_lt (scalar_cmp a b))))
 
--- operands of these kinds, or null, are taken: they are of one kind, and the operator takes it
-abbrev pub AreTaken : BinaryOp → Option Kind → Option Kind → Type 0
-AreTaken which None None = Unit {0}
-AreTaken which None (Some k) = IsSome (work_of which k)
-AreTaken which (Some k) None = IsSome (work_of which k)
-AreTaken which (Some k) (Some l) = (k ≡ l) × IsSome (work_of which k)
+-- the operator takes null and operands of this kind
+abbrev pub takes_kind : BinaryOp → Option Kind → Bool
+takes_kind which None = true
+takes_kind which (Some k) = is_some (work_of which k)
+
+-- the other operand is of the kind of this one, where neither is null
+abbrev pub is_like : Option Kind → Scalar → Bool
+is_like None b = true
+is_like (Some k) b = is_kind b k
+
+-- the operator takes the operands: each is null or of a kind that it takes, and two that are not null are of one kind
+abbrev pub is_taken : BinaryOp → Scalar → Scalar → Bool
+is_taken which a b = takes_kind which (kind_of a) && (takes_kind which (kind_of b) && is_like (kind_of a) b)
+
+-- the kind of what the operator gives for operands of a kind
+abbrev pub answer_kind : BinaryOp → Kind → Kind
+answer_kind Eq k = kind.Bool
+answer_kind Ne k = kind.Bool
+answer_kind Lt k = kind.Bool
+answer_kind Le k = kind.Bool
+answer_kind Gt k = kind.Bool
+answer_kind Ge k = kind.Bool
+answer_kind _ k = k
 
 -- the work, where there is one
 abbrev pub worked_at : Option Work → Scalar → Scalar → Result Scalar FaultKind

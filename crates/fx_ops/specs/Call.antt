@@ -8,7 +8,7 @@ use Rattle.fx_time.specs.declared.span.Span.{Span}
 use Rattle.fx_value.specs.declared.scalar.Scalar.{Scalar}
 use Rattle.fx_value.specs.declared.scalar.Scalar.TheVariants as scalar
 use Rattle.fx_ops.specs.Arguments.{text_at, int_at, time_at, texts_in, ◌>>=◌}
-use Rattle.fx_ops.specs.Binary.{limited}
+use Rattle.fx_ops.specs.Limit.{limited}
 use Rattle.fx_ops.specs.Dates.{shown, truncated, added, subtracted}
 use Rattle.fx_ops.specs.Texts.{occurs, substring, without_front, without_back, replaced, joined, repeated}
 use Rattle.fx_ops.specs.declared.dates.Field.{Field}

@@ -4,7 +4,10 @@ pub mod Binary
 pub mod Call
 pub mod Convert
 pub mod Dates
+pub mod Kinds
+pub mod Limit
 pub mod Operand
 pub mod Parts
+pub mod Signatures
 pub mod Texts
 pub mod Whole

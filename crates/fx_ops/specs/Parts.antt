@@ -1,8 +1,9 @@
 -- The parts of a text between the separators in it.
-use Rattle.std.specs.Prelude.{ℕ, zero, suc, ◌-◌, ◌==◌, if◌then◌else◌, nat_eq, nat_le, Bool, List, [], ◌∷◌, length, Result, Ok, Err}
+use Rattle.std.specs.Prelude.{ℕ, zero, suc, ◌-◌, ◌==◌, if◌then◌else◌, nat_eq, List, [], ◌∷◌, length, Result, Ok, Err}
 use Rattle.std.specs.List.{starts_with, list_all}
 use Rattle.fx_base.specs.declared.fault.FaultKind.{FaultKind}
 use Rattle.fx_base.specs.declared.fault.FaultKind.TheVariants.{TooLarge}
+use Rattle.fx_ops.specs.Limit.{is_short}
 
 -- a byte more at the front of the first part
 abbrev pub in_first : ℕ → List (List ℕ) → List (List ℕ)
@@ -21,10 +22,6 @@ parts_past by zero (byte ∷ rest) =
 -- the parts of a text between the separators from the left; one part where the separator is empty
 abbrev pub parts : List ℕ → List ℕ → List (List ℕ)
 parts by text = if length by == 0 then text ∷ [] else parts_past by 0 text
-
--- at most 1,048,576 bytes
-abbrev pub is_short : List ℕ → Bool
-is_short text = nat_le (length text) 1_048_576
 
 -- the texts, where none is too long
 abbrev pub all_limited : List (List ℕ) → Result (List (List ℕ)) FaultKind

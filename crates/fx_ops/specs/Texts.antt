@@ -5,7 +5,7 @@ use Rattle.std.specs.Str.{chars, encode_utf8_all}
 use Rattle.fx_base.specs.declared.fault.FaultKind.{FaultKind}
 use Rattle.fx_base.specs.declared.fault.FaultKind.TheVariants.{IndexRange}
 use Rattle.fx_value.specs.declared.scalar.Scalar.{Scalar}
-use Rattle.fx_ops.specs.Binary.{limited}
+use Rattle.fx_ops.specs.Limit.{limited}
 use Rattle.fx_ops.specs.Parts.{parts}
 
 -- the part stands somewhere in the text

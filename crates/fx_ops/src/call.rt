@@ -1,12 +1,15 @@
-ghost use Rattle.std.specs.Prelude.{IsTrue, IsErrOf};
+ghost use Rattle.std.specs.Prelude.{IfOk, IsTrue, IsErrOf};
 ghost use Rattle.fx_ops.specs.Answer.{Gives};
 ghost use Rattle.fx_ops.specs.Call.{called, makes_text};
+ghost use Rattle.fx_ops.specs.Kinds.{in_range, is_kind};
+ghost use Rattle.fx_ops.specs.Signatures.{called_kind};
 ghost use Rattle.fx_ops.specs.declared.fault.OpFault.TheVariants.{Memory};
 
 use crate::characters::{strlen, substring};
 use crate::dates::{Field, add, field_of, sub, truncate};
 use crate::fault::OpFault;
 use crate::function::ScalarFn;
+use crate::kinds::see_whole;
 use crate::texts::{
     contains_str, has_prefix, has_suffix, join_str, repeat, replace_all, trim_prefix, trim_suffix,
 };
@@ -26,9 +29,19 @@ pub fn scalar_call(
     span: Span,
 ) -> Result<Scalar, OpFault>
     ensures answer { Gives (called which args.now span) result }
+    ensures kind { IfOk result (λ value. IsTrue (is_kind value (called_kind which))) }
+    ensures range { IfOk result (λ value. IsTrue (in_range value)) }
     ensures memory { IsErrOf result Memory → IsTrue (makes_text which) }
 {
-    let args = args.as_slice();
+    let value = called(alloc, which, args.as_slice(), span)?;
+    see_whole(&value);
+    Ok(value)
+}
+
+fn called(alloc: Global, which: ScalarFn, args: &[Scalar], span: Span) -> Result<Scalar, OpFault>
+    ensures answer { Gives (called which args.now span) result }
+    ensures memory { IsErrOf result Memory → IsTrue (makes_text which) }
+{
     match which {
         ScalarFn::ContainsStr => contains_str(args),
         ScalarFn::HasPrefix => has_prefix(args),

@@ -1,14 +1,18 @@
-ghost use Rattle.std.specs.Prelude.{◌≡◌, ◌↔◌, IsTrue, ℤ, Some, Ok, Err};
+ghost use Rattle.std.specs.Prelude.{◌≡◌, ◌↔◌, IsTrue, IfOk, ℤ, Some, Ok, Err};
 ghost use Rattle.std.specs.Fmt.{signed_decimal};
 ghost use Rattle.fx_base.specs.declared.fault.FaultKind.TheVariants.{BadConversion};
-ghost use Rattle.fx_time.specs.Time.{IsTime, time_text};
+ghost use Rattle.fx_time.specs.Time.{time_text};
+ghost use Rattle.fx_time.specs.Value.{time_value};
 ghost use Rattle.fx_value.specs.declared.scalar.Kind.TheVariants as kind;
 ghost use Rattle.fx_value.specs.declared.scalar.Scalar.TheVariants as scalar;
-ghost use Rattle.fx_ops.specs.Answer.{Gives, Tells};
+ghost use Rattle.fx_ops.specs.Answer.{Gives};
 ghost use Rattle.fx_ops.specs.declared.fault.OpFault.TheVariants as fault;
-ghost use Rattle.fx_ops.specs.Convert.{is_convertible, Converts, IsIntText, Reads, IsToInt, IsToTime, to_bool, to_text, bool_text, flag, named_flag};
+ghost use Rattle.fx_ops.specs.Convert.{is_convertible, converted, int_value, IsIntText, read, to_bool, to_int, to_text, to_time, bool_text, flag, named_flag};
+ghost use Rattle.fx_ops.specs.Limit.{limited};
+ghost use Rattle.fx_ops.specs.Kinds.{in_range, is_kind};
 
 use crate::fault::OpFault;
+use crate::kinds::see_whole;
 use crate::limit::kept;
 use fx_base::{FaultKind, Text};
 use fx_time::{print_time, read_time};
@@ -19,7 +23,19 @@ use std::alloc::Global;
 /// integer other than 0 and 1 that is to be a Boolean, are BadConversion.
 pub fn convert(alloc: Global, to: Kind, a: &Scalar) -> Result<Scalar, OpFault>
     requires { IsTrue (is_convertible to a.now) }
-    ensures { Tells (Converts to a.now) result }
+    ensures answer { Gives (converted to a.now) result }
+    ensures kind { IfOk result (λ value. IsTrue (is_kind value to)) }
+    ensures range { IfOk result (λ value. IsTrue (in_range value)) }
+{
+    see_whole(a);
+    let value = converted(alloc, to, a)?;
+    see_whole(&value);
+    Ok(value)
+}
+
+fn converted(alloc: Global, to: Kind, a: &Scalar) -> Result<Scalar, OpFault>
+    requires { IsTrue (is_convertible to a.now) }
+    ensures { Gives (converted to a.now) result }
 {
     match to {
         Kind::Bool => to_bool(a),
@@ -73,7 +89,7 @@ fn named_flag(text: &str) -> Result<Scalar, OpFault>
 }
 
 fn to_int(a: &Scalar) -> Result<Scalar, OpFault>
-    ensures { Tells (IsToInt a.now) result }
+    ensures { Gives (to_int a.now) result }
 {
     match a {
         Scalar::Null => Ok(Scalar::Null),
@@ -85,7 +101,7 @@ fn to_int(a: &Scalar) -> Result<Scalar, OpFault>
 }
 
 fn int_in(text: &str) -> Result<Scalar, OpFault>
-    ensures { Tells (Reads scalar.Int (IsIntText text.now)) result }
+    ensures { Gives (read scalar.Int (int_value text.now)) result }
 {
     match read_int(text) {
         Some(n) => Ok(Scalar::Int(n)),
@@ -95,6 +111,12 @@ fn int_in(text: &str) -> Result<Scalar, OpFault>
 
 /// The integer that the text writes: digits, behind a `-` if it has a sign.
 fn read_int(text: &str) -> Option<i64>
+    ensures { result ≡ int_value text.now }
+{
+    parsed(text)
+}
+
+fn parsed(text: &str) -> Option<i64>
     ensures { (n : ℤ) → IsIntText text.now n ↔ (result ≡ Some n) }
 {
     if text.as_bytes().first() == Some(&b'+') {
@@ -105,7 +127,7 @@ fn read_int(text: &str) -> Option<i64>
 
 fn to_time(a: &Scalar) -> Result<Scalar, OpFault>
     requires { IsTrue (is_convertible kind.Time a.now) }
-    ensures { Tells (IsToTime a.now) result }
+    ensures { Gives (to_time a.now) result }
 {
     match a {
         Scalar::Null => Ok(Scalar::Null),
@@ -117,7 +139,7 @@ fn to_time(a: &Scalar) -> Result<Scalar, OpFault>
 }
 
 fn time_in(text: &str) -> Result<Scalar, OpFault>
-    ensures { Tells (Reads scalar.Time (IsTime text.now)) result }
+    ensures { Gives (read scalar.Time (time_value text.now)) result }
 {
     match read_time(text.as_bytes()) {
         Some(t) => Ok(Scalar::Time(t)),
@@ -152,7 +174,7 @@ fn printed_int(alloc: Global, n: i64) -> Result<Scalar, OpFault>
 }
 
 fn printed_time(alloc: Global, t: i64) -> Result<Scalar, OpFault>
-    ensures { Gives (Ok (scalar.Text (time_text t))) result }
+    ensures { Gives (limited (time_text t)) result }
 {
-    Ok(Scalar::Text(print_time(alloc, t)?))
+    kept(&print_time(alloc, t)?)
 }

@@ -1,13 +1,16 @@
-ghost use Rattle.std.specs.Prelude.{◌≡◌, Some, IsErrOf};
+ghost use Rattle.std.specs.Prelude.{◌≡◌, Some, IfOk, IsErrOf, IsTrue};
 ghost use Rattle.fx_value.specs.Scalar.{kind_of};
+ghost use Rattle.fx_value.specs.declared.scalar.Kind.{Kind};
 ghost use Rattle.fx_value.specs.declared.scalar.Kind.TheVariants.{Text};
 ghost use Rattle.fx_ops.specs.Answer.{Gives};
-ghost use Rattle.fx_ops.specs.Binary.{AreTaken, binary_of, worked};
+ghost use Rattle.fx_ops.specs.Binary.{answer_kind, binary_of, is_taken, worked};
+ghost use Rattle.fx_ops.specs.Kinds.{in_range, is_kind};
 ghost use Rattle.fx_ops.specs.declared.fault.OpFault.TheVariants.{Memory};
 ghost use Rattle.fx_ops.specs.declared.operator.BinaryOp.TheVariants.{Add};
 ghost use Rattle.fx_ops.specs.declared.work.Work.TheVariants.{Join};
 
 use crate::fault::OpFault;
+use crate::kinds::see_whole;
 use crate::operand::{number, text};
 use crate::operator::BinaryOp;
 use crate::row::joined;
@@ -20,7 +23,19 @@ use std::alloc::Global;
 /// Integers outside 64 bits are Overflow, a zero divisor is DivideByZero, and a text of more than
 /// 1,048,576 bytes is TooLarge. Only two texts that are added take memory.
 pub fn binary(alloc: Global, which: BinaryOp, a: &Scalar, b: &Scalar) -> Result<Scalar, OpFault>
-    requires { AreTaken which (kind_of a.now) (kind_of b.now) }
+    requires { IsTrue (is_taken which a.now b.now) }
+    ensures answer { Gives (binary_of which a.now b.now) result }
+    ensures kind { (k : Kind) → IsTrue (is_kind a.now k) → IfOk result (λ value. IsTrue (is_kind value (answer_kind which k))) }
+    ensures range { IfOk result (λ value. IsTrue (in_range value)) }
+    ensures memory { IsErrOf result Memory → (which ≡ Add) × (kind_of a.now ≡ Some Text) × (kind_of b.now ≡ Some Text) }
+{
+    let value = operated(alloc, which, a, b)?;
+    see_whole(&value);
+    Ok(value)
+}
+
+fn operated(alloc: Global, which: BinaryOp, a: &Scalar, b: &Scalar) -> Result<Scalar, OpFault>
+    requires { IsTrue (is_taken which a.now b.now) }
     ensures answer { Gives (binary_of which a.now b.now) result }
     ensures memory { IsErrOf result Memory → (which ≡ Add) × (kind_of a.now ≡ Some Text) × (kind_of b.now ≡ Some Text) }
 {

@@ -1,5 +1,5 @@
 ghost use Rattle.fx_ops.specs.Answer.{Gives};
-ghost use Rattle.fx_ops.specs.Binary.{limited};
+ghost use Rattle.fx_ops.specs.Limit.{limited};
 
 use crate::fault::OpFault;
 use fx_base::{FaultKind, Text};

@@ -1,6 +1,7 @@
-ghost use Rattle.std.specs.Prelude.{◌≡◌, ◌<◌, length, map, IfOk};
-ghost use Rattle.std.specs.List.{join_by};
+ghost use Rattle.std.specs.Prelude.{◌≡◌, ◌<◌, length, map, IfOk, IsTrue};
+ghost use Rattle.std.specs.List.{join_by, list_all};
 ghost use Rattle.fx_ops.specs.Answer.{Gives};
+ghost use Rattle.fx_ops.specs.Limit.{is_short};
 ghost use Rattle.fx_ops.specs.Parts.{parts, parts_past, all_limited};
 
 use crate::fault::OpFault;
@@ -14,6 +15,7 @@ use std::alloc::Global;
 pub fn split_text(alloc: Global, a: &Text, by: &Text) -> Result<List<Text>, OpFault>
     ensures answer { Gives (all_limited (parts by.now a.now)) result }
     ensures whole { IfOk result (λ found. join_by (λ part. part) by.now found ≡ a.now) }
+    ensures range { IfOk result (λ found. IsTrue (list_all is_short found)) }
 {
     let parts = parts(alloc, a.as_str(), by.as_str())?;
     texts_of(alloc, parts.as_slice())

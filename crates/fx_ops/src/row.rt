@@ -1,16 +1,17 @@
 //! Texts that are put together of others. One that would be too long is left before it is.
-ghost use Rattle.std.specs.Prelude.{◌≡◌, ◌<◌, ◌++◌, length, OnOk, IsErrOf};
-ghost use Rattle.std.specs.List.{flat_map, join_by, repeat};
+ghost use Rattle.std.specs.Prelude.{◌≡◌, ◌<◌, ◌++◌, length, IfOk, IsTrue, OnOk, IsErrOf};
+ghost use Rattle.std.specs.List.{concat, flat_map, join_by, repeat};
 ghost use Rattle.std.specs.String.{string_bytes};
 ghost use Rattle.fx_base.specs.declared.fault.FaultKind.{FaultKind};
 ghost use Rattle.fx_base.specs.declared.fault.FaultKind.TheVariants.{TooLarge};
 ghost use Rattle.fx_ops.specs.Answer.{Gives};
-ghost use Rattle.fx_ops.specs.Binary.{limited};
+ghost use Rattle.fx_ops.specs.Kinds.{in_range};
+ghost use Rattle.fx_ops.specs.Limit.{limited};
 ghost use Rattle.fx_ops.specs.declared.fault.OpFault.TheVariants.{Kind};
 
 use crate::fault::OpFault;
 use crate::limit::{MOST, limited};
-use fx_base::FaultKind;
+use fx_base::{FaultKind, List, Text};
 use fx_value::Scalar;
 use std::alloc::Global;
 
@@ -41,6 +42,24 @@ pub fn joined(alloc: Global, first: &str, second: &str) -> Result<Scalar, OpFaul
 {
     let mut row = String::new(alloc);
     add_both(&mut row, first, second)?;
+    limited(alloc, row.as_str())
+}
+
+/// The texts in a row, or TooLarge where together they have more than 1,048,576 bytes.
+pub fn join_texts(alloc: Global, texts: &List<Text>) -> Result<Scalar, OpFault>
+    ensures answer { Gives (limited (concat texts.now)) result }
+    ensures range { IfOk result (λ value. IsTrue (in_range value)) }
+{
+    in_one(alloc, texts.as_slice())
+}
+
+fn in_one(alloc: Global, texts: &[Text]) -> Result<Scalar, OpFault>
+    ensures { Gives (limited (concat texts.now)) result }
+{
+    let mut row = String::new(alloc);
+    for text in texts {
+        add(&mut row, text.as_str())?;
+    }
     limited(alloc, row.as_str())
 }
 

@@ -3,7 +3,7 @@
 ghost use Rattle.std.specs.Prelude.{◌≡◌, ◌≢◌, nat_eq, map, Err};
 ghost use Rattle.std.specs.List.{starts_with, ends_with};
 ghost use Rattle.fx_ops.specs.Answer.{Gives};
-ghost use Rattle.fx_ops.specs.Binary.{limited};
+ghost use Rattle.fx_ops.specs.Limit.{limited};
 ghost use Rattle.fx_ops.specs.Call.{tested, made, replaced_in, joined_in, repeated_in};
 ghost use Rattle.fx_ops.specs.Texts.{occurs, without_front, without_back, replaced, joined, repeated};
 ghost use Rattle.fx_ops.specs.declared.fault.OpFault.TheVariants.{Memory};

@@ -1,9 +1,12 @@
-ghost use Rattle.std.specs.Prelude.{◌≡◌, ◌≢◌, IsTrue, neg_ℤ, ◌+ℤ◌, ◌-ℤ◌, ◌*ℤ◌, Ok, Err};
+ghost use Rattle.std.specs.Prelude.{◌≢◌, IfOk, IsTrue, neg_ℤ, ◌+ℤ◌, ◌-ℤ◌, ◌*ℤ◌, Ok, Err};
+ghost use Rattle.fx_value.specs.declared.scalar.Kind.TheVariants as kind;
 ghost use Rattle.fx_ops.specs.Answer.{Gives};
+ghost use Rattle.fx_ops.specs.Kinds.{in_range, is_kind};
 ghost use Rattle.fx_ops.specs.declared.fault.OpFault.TheVariants.{Memory};
 ghost use Rattle.fx_ops.specs.Whole.{whole, quotient, remainder, negation, takes_sign};
 
 use crate::fault::OpFault;
+use crate::kinds::see_whole;
 use fx_base::FaultKind;
 use fx_value::Scalar;
 
@@ -62,6 +65,18 @@ pub fn times(a: i64, b: i64) -> Result<Scalar, OpFault>
 
 /// The negated integer, or null for null.
 pub fn negate(a: &Scalar) -> Result<Scalar, OpFault>
+    requires { IsTrue (takes_sign a.now) }
+    ensures answer { Gives (negation a.now) result }
+    ensures kind { IfOk result (λ value. IsTrue (is_kind value kind.Int)) }
+    ensures range { IfOk result (λ value. IsTrue (in_range value)) }
+    ensures memory { result ≢ Err Memory }
+{
+    let value = negated(a)?;
+    see_whole(&value);
+    Ok(value)
+}
+
+fn negated(a: &Scalar) -> Result<Scalar, OpFault>
     requires { IsTrue (takes_sign a.now) }
     ensures answer { Gives (negation a.now) result }
     ensures memory { result ≢ Err Memory }

@@ -1,6 +1,6 @@
 use Rattle.std.proofs.Common.{◌≡◌, ◌++◌, drop, map}
 use Rattle.std.specs.List.{list_all}
-use Rattle.fx_ops.specs.Parts.{is_short}
+use Rattle.fx_ops.specs.Limit.{is_short}
 use Rattle.fx_ops.proofs.parts.texts_of.Given as goal
 
 abbrev pub invariant-loop-part : goal.invariant-loop-part
