@@ -1,13 +1,12 @@
 -- The integers that texts write are those that `parse` reads, but for a text with a `+`.
-use Rattle.std.proofs.Common.{◌≡◌, ℕ, ◌<◌, Bool, true, false, List, [], ◌∷◌, length, drop, ℤ, inl, inr, Some, None, FitsSigned, w64, refl, sym, ap, ◌∙◌, subst}
-use Rattle.std.specs.Prelude.{◌≢◌, ◌↔◌, Option, ◌==◌, cond, if◌then◌else◌, nat_lt, slice_index}
+use Rattle.std.proofs.Common.{◌≡◌, ℕ, true, false, List, [], ◌∷◌, length, drop, ℤ, inl, inr, Some, None, FitsSigned, w64, refl, sym, ap, ◌∙◌, subst}
+use Rattle.std.specs.Prelude.{◌≢◌, ◌↔◌, Option, ◌==◌, if◌then◌else◌, nat_lt, slice_index}
 use Rattle.std.specs.Char.{digit_value}
 use Rattle.std.specs.List.{list_all}
 use Rattle.std.specs.Str.Parse.{AllDigits, IsNumeral, signed_digits_value, starts_with_minus, without_leading_sign}
 use Rattle.std.proofs.lemmas.Bool.{and_from, and_parts, and_right, eqb-true, lt-ltb, ltb-true}
 use Rattle.std.proofs.lemmas.Bool.Decides.{eqb_tells}
 use Rattle.fx_ops.specs.Convert.{IsIntText, int_value, is_int_text, is_numeral}
-use Rattle.fx_ops.specs.Whole.{in_64_bits}
 use Rattle.fx_ops.proofs.DateLemmas.{fits_test, unfit_test}
 use Rattle.fx_ops.proofs.TextLemmas.{bool_tells}
 

@@ -23,7 +23,7 @@ use Rattle.fx_value.specs.declared.scalar.Scalar.TheVariants as scalar
 use Rattle.fx_time.specs.declared.span.Span.{Span}
 use Rattle.fx_ops.specs.Answer.{Gives}
 use Rattle.fx_ops.specs.Arguments.{text_at, int_at, time_at, texts_in, ◌>>=◌}
-use Rattle.fx_ops.specs.Binary.{answer_kind, at_kinds, binary_of, work_of, worked, worked_at}
+use Rattle.fx_ops.specs.Binary.{answer_kind, at_kinds, binary_of, work_of, worked_at}
 use Rattle.fx_ops.specs.Call.{called, made, tested, told}
 use Rattle.fx_ops.specs.Convert.{converted, flag, int_value, named_flag, read}
 use Rattle.fx_ops.specs.Dates.{time_from, truncated, added, subtracted, is_unit, window_at}

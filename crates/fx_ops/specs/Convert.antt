@@ -1,5 +1,5 @@
 -- Conversions of scalars to a kind.
-use Rattle.std.specs.Prelude.{◌≡◌, ◌≢◌, FitsSigned, slice_index, ◌&&◌, ◌==◌, Bool, true, false, not, nat_lt, ℕ, List, codes, length, drop, if◌then◌else◌, Option, Some, None, Result, Ok, Err, ℤ, pos}
+use Rattle.std.specs.Prelude.{◌≡◌, ◌≢◌, FitsSigned, slice_index, ◌&&◌, Bool, true, false, nat_lt, ℕ, List, codes, length, drop, if◌then◌else◌, Option, Some, None, Result, Ok, Err, ℤ, pos}
 use Rattle.std.specs.Char.{digit_value}
 use Rattle.std.specs.Int.{w64}
 use Rattle.std.specs.List.{list_all}
