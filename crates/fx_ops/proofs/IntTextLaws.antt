@@ -1,12 +1,12 @@
 -- The integers that texts write are those that `parse` reads, but for a text with a `+`.
-use Rattle.std.proofs.Common.{◌≡◌, ℕ, ◌<◌, Bool, true, false, List, [], ◌∷◌, length, drop, ℤ, inl, inr, Some, None, FitsSigned, w64, refl, sym, ap, ◌∙◌}
-use Rattle.std.specs.Prelude.{◌≢◌, ◌==◌, cond, if◌then◌else◌, nat_lt, slice_index}
+use Rattle.std.proofs.Common.{◌≡◌, ℕ, true, false, List, [], ◌∷◌, length, drop, ℤ, inl, inr, Some, None, FitsSigned, w64, refl, sym, ap, ◌∙◌, subst}
+use Rattle.std.specs.Prelude.{◌≢◌, ◌↔◌, Option, ◌==◌, if◌then◌else◌, nat_lt, slice_index}
 use Rattle.std.specs.Char.{digit_value}
 use Rattle.std.specs.List.{list_all}
 use Rattle.std.specs.Str.Parse.{AllDigits, IsNumeral, signed_digits_value, starts_with_minus, without_leading_sign}
-use Rattle.std.proofs.lemmas.Bool.{and_from, and_parts, eqb-true, lt-ltb, ltb-true}
-use Rattle.fx_ops.specs.Convert.{int_value, is_int_text, is_numeral}
-use Rattle.fx_ops.specs.Whole.{in_64_bits}
+use Rattle.std.proofs.lemmas.Bool.{and_from, and_parts, and_right, eqb-true, lt-ltb, ltb-true}
+use Rattle.std.proofs.lemmas.Bool.Decides.{eqb_tells}
+use Rattle.fx_ops.specs.Convert.{IsIntText, int_value, is_int_text, is_numeral}
 use Rattle.fx_ops.proofs.DateLemmas.{fits_test, unfit_test}
 use Rattle.fx_ops.proofs.TextLemmas.{bool_tells}
 
@@ -40,13 +40,13 @@ behind_sign text plus = elim (bool_tells (starts_with_minus text)) [
   ])
 ]
 
-pub int_value-read : (text : List ℕ) → slice_index text 0 ≢ 43 → IsNumeral 10 (without_leading_sign text) → FitsSigned w64 (signed_digits_value 10 text)
+int_value-read : (text : List ℕ) → slice_index text 0 ≢ 43 → IsNumeral 10 (without_leading_sign text) → FitsSigned w64 (signed_digits_value 10 text)
     → int_value text ≡ Some (signed_digits_value 10 text)
 int_value-read text plus numeral fits =
     let is : is_int_text text ≡ true = ap is_numeral (sym (behind_sign text plus)) ∙ numeral_passes (without_leading_sign text) numeral in
     rw (is, fits_test (signed_digits_value 10 text) fits) refl
 
-pub int_value-unread : (text : List ℕ) → slice_index text 0 ≢ 43 → (IsNumeral 10 (without_leading_sign text) × FitsSigned w64 (signed_digits_value 10 text) → ⊥)
+int_value-unread : (text : List ℕ) → slice_index text 0 ≢ 43 → (IsNumeral 10 (without_leading_sign text) × FitsSigned w64 (signed_digits_value 10 text) → ⊥)
     → int_value text ≡ None
 int_value-unread text plus unread = elim (bool_tells (is_int_text text)) [
   | inl is ↦
@@ -55,6 +55,20 @@ int_value-unread text plus unread = elim (bool_tells (is_int_text text)) [
   | inr isnt ↦ rw isnt refl
 ]
 
-pub int_value-plus : (text : List ℕ) → slice_index text 0 ≡ 43 → int_value text ≡ None
+int_value-plus : (text : List ℕ) → slice_index text 0 ≡ 43 → int_value text ≡ None
 int_value-plus [] plus = absurd cc
-int_value-plus (byte ∷ text) plus = rw plus refl
+int_value-plus (byte ∷ text) plus =
+    let none : is_int_text (43 ∷ text) ≡ false = and_right (nat_lt 0 (length (43 ∷ text))) false refl in
+    let unread : int_value (43 ∷ text) ≡ None = rw none refl in
+    ap (λ b. int_value (b ∷ text)) plus ∙ unread
+
+-- what is a text's integer exactly where the text writes it is the text's value
+pub int_told : (text : List ℕ) (o : Option ℤ) → ((n : ℤ) → IsIntText text n ↔ (o ≡ Some n)) → o ≡ int_value text
+int_told text (Some n) told =
+    let is : IsIntText text n = (told n).1 refl in
+    let fits : FitsSigned w64 (signed_digits_value 10 text) = subst (λ z. FitsSigned w64 z) is.3 is.2 in
+    ap (λ z. Some z) is.3 ∙ sym (int_value-read text is.0 is.1 fits)
+int_told text None told = elim (eqb_tells (slice_index text 0) 43) [
+  | inl plus ↦ sym (int_value-plus text plus.1)
+  | inr other ↦ sym (int_value-unread text other.1 (λ reads. let some = (told (signed_digits_value 10 text)).0 (other.1, reads.0, reads.1, refl) in absurd cc))
+]

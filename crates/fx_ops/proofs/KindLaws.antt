@@ -23,7 +23,7 @@ use Rattle.fx_value.specs.declared.scalar.Scalar.TheVariants as scalar
 use Rattle.fx_time.specs.declared.span.Span.{Span}
 use Rattle.fx_ops.specs.Answer.{Gives}
 use Rattle.fx_ops.specs.Arguments.{text_at, int_at, time_at, texts_in, ◌>>=◌}
-use Rattle.fx_ops.specs.Binary.{answer_kind, at_kinds, binary_of, work_of, worked, worked_at}
+use Rattle.fx_ops.specs.Binary.{answer_kind, at_kinds, binary_of, work_of, worked_at}
 use Rattle.fx_ops.specs.Call.{called, made, tested, told}
 use Rattle.fx_ops.specs.Convert.{converted, flag, int_value, named_flag, read}
 use Rattle.fx_ops.specs.Dates.{time_from, truncated, added, subtracted, is_unit, window_at}
@@ -69,10 +69,16 @@ limited_suits text = elim (is_short text) as (λ b. is_short text ≡ b → Pass
   | false ↦ λ e. tt
 ] refl
 
+limited_in_range : (text : List ℕ) → Passes in_range (limited text)
+limited_in_range text = elim (is_short text) as (λ b. is_short text ≡ b → Passes in_range (if b then Ok (scalar.Text text) else Err TooLarge)) [
+  | true ↦ λ e. e
+  | false ↦ λ e. tt
+] refl
+
 -- a text that is answered is not too long
 pub limited_told : (text : List ℕ) (answer : Result Scalar OpFault) → Gives (limited text) answer → IfOk answer (λ value. IsTrue (in_range value))
 limited_told text (Err f) gives = tt
-limited_told text (Ok value) gives = let suited = limited_suits text in rw gives at suited
+limited_told text (Ok value) gives = let ranged = limited_in_range text in rw gives at ranged
 
 whole_suits : (n : ℤ) → Passes (suits kind.Int) (whole n)
 whole_suits n = elim (in_64_bits n) as (λ b. Passes (suits kind.Int) (if b then Ok (scalar.Int n) else Err Overflow)) [ true ↦ refl | false ↦ tt ]

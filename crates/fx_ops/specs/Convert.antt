@@ -1,10 +1,11 @@
 -- Conversions of scalars to a kind.
-use Rattle.std.specs.Prelude.{◌&&◌, ◌==◌, Bool, true, false, not, nat_lt, ℕ, List, codes, length, drop, if◌then◌else◌, Option, Some, None, Result, Ok, Err, ℤ, pos}
+use Rattle.std.specs.Prelude.{◌≡◌, ◌≢◌, FitsSigned, slice_index, ◌&&◌, Bool, true, false, nat_lt, ℕ, List, codes, length, drop, if◌then◌else◌, Option, Some, None, Result, Ok, Err, ℤ, pos}
 use Rattle.std.specs.Char.{digit_value}
+use Rattle.std.specs.Int.{w64}
 use Rattle.std.specs.List.{list_all}
 use Rattle.std.specs.Ordering.{int_eq}
 use Rattle.std.specs.Fmt.{signed_decimal}
-use Rattle.std.specs.Str.Parse.{starts_with_minus, signed_digits_value}
+use Rattle.std.specs.Str.Parse.{IsNumeral, starts_with_minus, signed_digits_value, without_leading_sign}
 use Rattle.fx_base.specs.declared.fault.FaultKind.{FaultKind}
 use Rattle.fx_base.specs.declared.fault.FaultKind.TheVariants.{BadConversion}
 use Rattle.fx_base.specs.Text.{same_text}
@@ -23,6 +24,11 @@ is_convertible kind.Bool (scalar.Time t) = false
 is_convertible kind.Time (scalar.Bool b) = false
 is_convertible _ _ = true
 
+-- the text is digits, behind a `-` if it has a sign, and this is its value, in 64 bits
+abbrev pub IsIntText : List ℕ → ℤ → Type 0
+IsIntText text n =
+    (slice_index text 0 ≢ 43) × IsNumeral 10 (without_leading_sign text) × FitsSigned w64 n × (n ≡ signed_digits_value 10 text)
+
 -- one digit or more, and nothing else
 abbrev pub is_numeral : List ℕ → Bool
 is_numeral text = nat_lt 0 (length text) && list_all (λ byte. nat_lt (digit_value byte) 10) text
@@ -31,7 +37,7 @@ is_numeral text = nat_lt 0 (length text) && list_all (λ byte. nat_lt (digit_val
 abbrev pub is_int_text : List ℕ → Bool
 is_int_text text = is_numeral (if starts_with_minus text then drop 1 text else text)
 
--- the integer that the text writes, where it writes one in 64 bits
+-- the integer of a text as a function, None where it has none
 abbrev pub int_value : List ℕ → Option ℤ
 int_value text =
     if is_int_text text && in_64_bits (signed_digits_value 10 text) then Some (signed_digits_value 10 text) else None

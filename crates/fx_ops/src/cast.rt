@@ -1,4 +1,4 @@
-ghost use Rattle.std.specs.Prelude.{◌≡◌, IsTrue, IfOk, Ok, Err};
+ghost use Rattle.std.specs.Prelude.{◌≡◌, ◌↔◌, IsTrue, IfOk, ℤ, Some, Ok, Err};
 ghost use Rattle.std.specs.Fmt.{signed_decimal};
 ghost use Rattle.fx_base.specs.declared.fault.FaultKind.TheVariants.{BadConversion};
 ghost use Rattle.fx_time.specs.Time.{time_text};
@@ -7,7 +7,7 @@ ghost use Rattle.fx_value.specs.declared.scalar.Kind.TheVariants as kind;
 ghost use Rattle.fx_value.specs.declared.scalar.Scalar.TheVariants as scalar;
 ghost use Rattle.fx_ops.specs.Answer.{Gives};
 ghost use Rattle.fx_ops.specs.declared.fault.OpFault.TheVariants as fault;
-ghost use Rattle.fx_ops.specs.Convert.{is_convertible, converted, int_value, read, to_bool, to_int, to_text, to_time, bool_text, flag, named_flag};
+ghost use Rattle.fx_ops.specs.Convert.{is_convertible, converted, int_value, IsIntText, read, to_bool, to_int, to_text, to_time, bool_text, flag, named_flag};
 ghost use Rattle.fx_ops.specs.Limit.{limited};
 ghost use Rattle.fx_ops.specs.Kinds.{in_range, is_kind};
 
@@ -112,6 +112,12 @@ fn int_in(text: &str) -> Result<Scalar, OpFault>
 /// The integer that the text writes: digits, behind a `-` if it has a sign.
 fn read_int(text: &str) -> Option<i64>
     ensures { result ≡ int_value text.now }
+{
+    parsed(text)
+}
+
+fn parsed(text: &str) -> Option<i64>
+    ensures { (n : ℤ) → IsIntText text.now n ↔ (result ≡ Some n) }
 {
     if text.as_bytes().first() == Some(&b'+') {
         return None;

@@ -10,4 +10,4 @@ returns-clause-whole c =
     limited-whole c.args.by.now c.args.a.now _ c.texts_of.result found c.texts_of.ensures
 
 pub returns-clause-range : goal.returns-clause-range
-returns-clause-range c = limited-short _ c.texts_of.result c.texts_of.ensures
+returns-clause-range c = limited-short (map (λ part. part.now) c.as_slice.result.now) c.texts_of.result c.texts_of.ensures
