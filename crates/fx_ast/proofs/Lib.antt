@@ -1,3 +1,5 @@
 pub mod BareLaws
+pub mod LevelLaws
+pub mod ListLaws
 pub mod SameLaws
 pub mod ShapeLaws

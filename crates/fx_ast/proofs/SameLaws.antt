@@ -10,7 +10,6 @@ use Rattle.fx_ast.specs.declared.expr.Param.{Param}
 use Rattle.fx_ast.specs.declared.expr.ParamKind.{ParamKind}
 use Rattle.fx_ast.specs.declared.expr.Part.{Part}
 use Rattle.fx_ast.specs.declared.expr.Prop.{Prop}
-use Rattle.fx_ast.specs.declared.expr.Node.TheFolds.{fold_out-Body}
 use Rattle.fx_ast.specs.declared.expr.Node.TheViews.{roll-ParamKind, out-ParamKind, roll-out-ParamKind, roll-Part, out-Part, roll-out-Part, out-Body}
 use Rattle.fx_ast.specs.declared.expr.Node.TheOpen.{Part-F, ParamKind-F}
 use Rattle.fx_ast.specs.declared.expr.Part.TheVariants as part_variants
@@ -18,9 +17,9 @@ use Rattle.fx_ast.specs.declared.expr.ParamKind.TheVariants as kind_variants
 use Rattle.fx_ast.specs.declared.script.Statement.{Statement}
 use Rattle.fx_ast.specs.declared.script.Script.{Script}
 use Rattle.fx_ast.specs.Bare.{bare, bare_shape, bare_trees, bare_parts, bare_props, bare_params, bare_default, bare_links, bare_part, bare_prop, bare_param, bare_link, bare_body, bare_form, bare_statement, bare_script}
-use Rattle.fx_ast.specs.Shape.{OfPart, a_piece, a_hole, OfBody, node_shape, kind_shape, part_shape, body_shape, expr_shape, link_shape, param_shape, prop_shape, OfLink, OfParam, OfProp, shape, form, kind, part, body, link, param, prop, trees_of, parts_of, props_of, links_of, params_of, statement_form, statement_tree, script_tree}
+use Rattle.fx_ast.specs.Shape.{OfPart, a_piece, a_hole, OfLink, OfParam, OfProp, tree_of, shape_of, default_of, part, body, link, param, prop, trees_of, parts_of, props_of, links_of, params_of, statement_form, statement_tree, script_tree}
 use Rattle.fx_ast.specs.Tree.{Tree, Shape, Default, required, by_pipe, by_value}
-use Rattle.fx_ast.proofs.ShapeLaws.{shape_is, link_is, param_is, prop_is, part_piece, part_hole, kind_default, kind_required, kind_piped}
+use Rattle.fx_ast.proofs.ShapeLaws.{body_is, tree_is, link_is, param_is, prop_is, part_piece, part_hole, default_value, default_required, default_pipe}
 
 untrue : ¬ (false ≡ true)
 untrue = grind arith
@@ -62,7 +61,7 @@ pub ends : {A B P : Type 0} (f : A → B) (xs ys ls rs : List A) (i : ℕ) → (
 ends f xs ys ls rs i (to, from) left right lengths over same =
     (λ _. from (sym (ap (map f) left) ∙ all_items f ls rs i over (subst (λ n. n ≤ i) lengths over) same ∙ ap (map f) right), λ _. refl)
 
-pub exprs_by_item : (xs ys : List Expr) → (bare_trees (trees_of (map shape xs)) ≡ bare_trees (trees_of (map shape ys))) ↔ (map (λ e. bare (shape e)) xs ≡ map (λ e. bare (shape e)) ys)
+pub exprs_by_item : (xs ys : List Expr) → (bare_trees (trees_of (map tree_of xs)) ≡ bare_trees (trees_of (map tree_of ys))) ↔ (map (λ e. bare (tree_of e)) xs ≡ map (λ e. bare (tree_of e)) ys)
 unfolding bare_trees
 exprs_by_item [] [] = (λ _. refl, λ _. refl)
 exprs_by_item [] (y ∷ ys) = grind arith
@@ -115,24 +114,20 @@ statements_by_item [] (y ∷ ys) = grind arith
 statements_by_item (x ∷ xs) [] = grind arith
 statements_by_item (x ∷ xs) (y ∷ ys) = let rest = statements_by_item xs ys in grind arith
 
-pub expr_is : (l r : Expr) → (bare (shape l) ≡ bare (shape r)) ↔ (bare_shape (form l.node) ≡ bare_shape (form r.node))
+pub expr_is : (l r : Expr) → (bare (tree_of l) ≡ bare (tree_of r)) ↔ (bare_shape (shape_of l.node) ≡ bare_shape (shape_of r.node))
 unfolding bare
-expr_is l r = rw (shape_is l, shape_is r) grind arith
+expr_is l r = rw (tree_is l, tree_is r) grind arith
 
-pub both_prop : (l r : Prop) → (bare_prop (prop l) ≡ bare_prop (prop r)) ↔ ((l.label ≡ r.label) × (bare (shape l.value) ≡ bare (shape r.value)))
+pub both_prop : (l r : Prop) → (bare_prop (prop l) ≡ bare_prop (prop r)) ↔ ((l.label ≡ r.label) × (bare (tree_of l.value) ≡ bare (tree_of r.value)))
 both_prop l r = rw (prop_is l, prop_is r) grind arith
 
-pub both_param : (l r : Param) → (bare_param (param l) ≡ bare_param (param r)) ↔ ((l.label ≡ r.label) × (bare_default (kind l.default) ≡ bare_default (kind r.default)))
+pub both_param : (l r : Param) → (bare_param (param l) ≡ bare_param (param r)) ↔ ((l.label ≡ r.label) × (bare_default (default_of l.default) ≡ bare_default (default_of r.default)))
 both_param l r = rw (param_is l, param_is r) grind arith
 
-pub both_link : (l r : Link) → (bare_link (link l) ≡ bare_link (link r)) ↔ ((l.op ≡ r.op) × (bare (shape l.right) ≡ bare (shape r.right)))
+pub both_link : (l r : Link) → (bare_link (link l) ≡ bare_link (link r)) ↔ ((l.op ≡ r.op) × (bare (tree_of l.right) ≡ bare (tree_of r.right)))
 both_link l r = rw (link_is l, link_is r) grind arith
 
-pub body_is : (b : Body) → body b ≡ record { lets = props_of (map prop (out-Body b).lets); result = shape (out-Body b).result }
-unfolding shape form kind part prop param body link
-body_is b = fold_out-Body Shape Default OfPart OfBody Tree OfLink OfParam OfProp node_shape kind_shape part_shape body_shape expr_shape link_shape param_shape prop_shape b
-
-pub both_body : (l r : Body) → (bare_body (body l) ≡ bare_body (body r)) ↔ ((bare_props (props_of (map prop (out-Body l).lets)) ≡ bare_props (props_of (map prop (out-Body r).lets))) × (bare (shape (out-Body l).result) ≡ bare (shape (out-Body r).result)))
+pub both_body : (l r : Body) → (bare_body (body l) ≡ bare_body (body r)) ↔ ((bare_props (props_of (map prop (out-Body l).lets)) ≡ bare_props (props_of (map prop (out-Body r).lets))) × (bare (tree_of (out-Body l).result) ≡ bare (tree_of (out-Body r).result)))
 both_body l r = rw (body_is l, body_is r) grind arith
 
 -- how a parameter gets its value, where that is known without places
@@ -141,39 +136,39 @@ OpensKind k required = k ≡ kind_variants.Required
 OpensKind k by_pipe = k ≡ kind_variants.Pipe
 OpensKind k (by_value _) = (e : Expr) × (k ≡ kind_variants.Value e)
 
-pub bare_required : bare_default (kind kind_variants.Required) ≡ required
+pub bare_required : bare_default (default_of kind_variants.Required) ≡ required
 unfolding bare_default
-bare_required = ap bare_default kind_required
+bare_required = ap bare_default default_required
 
-pub bare_piped : bare_default (kind kind_variants.Pipe) ≡ by_pipe
+pub bare_piped : bare_default (default_of kind_variants.Pipe) ≡ by_pipe
 unfolding bare_default
-bare_piped = ap bare_default (ap kind (sym kind_variants.rolls-Pipe) ∙ kind_piped)
+bare_piped = ap bare_default default_pipe
 
-pub bare_value : (e : Expr) → bare_default (kind (kind_variants.Value e)) ≡ by_value (bare (shape e))
+pub bare_value : (e : Expr) → bare_default (default_of (kind_variants.Value e)) ≡ by_value (bare (tree_of e))
 unfolding bare_default
-bare_value e = ap bare_default (kind_default e)
+bare_value e = ap bare_default (default_value e)
 
-opened_kind : (k m : ParamKind) (d : Default) → k ≡ m → bare_default (kind m) ≡ d → OpensKind k d → OpensKind k (bare_default (kind k))
-opened_kind k m d same told opens = subst (OpensKind k) (sym (ap (λ x. bare_default (kind x)) same ∙ told)) opens
+opened_kind : (k m : ParamKind) (d : Default) → k ≡ m → bare_default (default_of m) ≡ d → OpensKind k d → OpensKind k (bare_default (default_of k))
+opened_kind k m d same told opens = subst (OpensKind k) (sym (ap (λ x. bare_default (default_of x)) same ∙ told)) opens
 
-opens_kind_layer : (k : ParamKind) (l : ParamKind-F Node ParamKind Part Body Expr Link Param Prop) → k ≡ roll-ParamKind l → OpensKind k (bare_default (kind k))
+opens_kind_layer : (k : ParamKind) (l : ParamKind-F Node ParamKind Part Body Expr Link Param Prop) → k ≡ roll-ParamKind l → OpensKind k (bare_default (default_of k))
 opens_kind_layer k ParamKind-F.Required is = let same = is ∙ kind_variants.rolls-Required in opened_kind k kind_variants.Required required same bare_required same
 opens_kind_layer k ParamKind-F.«ParamKind::Pipe» is = let same = is ∙ kind_variants.rolls-Pipe in opened_kind k kind_variants.Pipe by_pipe same bare_piped same
-opens_kind_layer k (ParamKind-F.Value e) is = let same = is ∙ kind_variants.rolls-Value e in opened_kind k (kind_variants.Value e) (by_value (bare (shape e))) same (bare_value e) (e, same)
+opens_kind_layer k (ParamKind-F.Value e) is = let same = is ∙ kind_variants.rolls-Value e in opened_kind k (kind_variants.Value e) (by_value (bare (tree_of e))) same (bare_value e) (e, same)
 
-opens_kind : (k : ParamKind) → OpensKind k (bare_default (kind k))
+opens_kind : (k : ParamKind) → OpensKind k (bare_default (default_of k))
 opens_kind k = opens_kind_layer k (out-ParamKind k) (sym (roll-out-ParamKind k))
 
-pub not_required : (l r : ParamKind) → l ≡ kind_variants.Required → ¬ (r ≡ kind_variants.Required) → ¬ (bare_default (kind l) ≡ bare_default (kind r))
-not_required l r is none same = none (subst (OpensKind r) (sym same ∙ ap (λ x. bare_default (kind x)) is ∙ bare_required) (opens_kind r))
+pub not_required : (l r : ParamKind) → l ≡ kind_variants.Required → ¬ (r ≡ kind_variants.Required) → ¬ (bare_default (default_of l) ≡ bare_default (default_of r))
+not_required l r is none same = none (subst (OpensKind r) (sym same ∙ ap (λ x. bare_default (default_of x)) is ∙ bare_required) (opens_kind r))
 
-pub not_piped : (l r : ParamKind) → l ≡ kind_variants.Pipe → ¬ (r ≡ kind_variants.Pipe) → ¬ (bare_default (kind l) ≡ bare_default (kind r))
-not_piped l r is none same = none (subst (OpensKind r) (sym same ∙ ap (λ x. bare_default (kind x)) is ∙ bare_piped) (opens_kind r))
+pub not_piped : (l r : ParamKind) → l ≡ kind_variants.Pipe → ¬ (r ≡ kind_variants.Pipe) → ¬ (bare_default (default_of l) ≡ bare_default (default_of r))
+not_piped l r is none same = none (subst (OpensKind r) (sym same ∙ ap (λ x. bare_default (default_of x)) is ∙ bare_piped) (opens_kind r))
 
-pub not_value : (l r : ParamKind) (e : Expr) → l ≡ kind_variants.Value e → ((e : Expr) → ¬ (r ≡ kind_variants.Value e)) → ¬ (bare_default (kind l) ≡ bare_default (kind r))
-not_value l r e is none same = let (e2, found) = subst (OpensKind r) (sym same ∙ ap (λ x. bare_default (kind x)) is ∙ bare_value e) (opens_kind r) in none e2 found
+pub not_value : (l r : ParamKind) (e : Expr) → l ≡ kind_variants.Value e → ((e : Expr) → ¬ (r ≡ kind_variants.Value e)) → ¬ (bare_default (default_of l) ≡ bare_default (default_of r))
+not_value l r e is none same = let (e2, found) = subst (OpensKind r) (sym same ∙ ap (λ x. bare_default (default_of x)) is ∙ bare_value e) (opens_kind r) in none e2 found
 
-pub both_value : (l r : ParamKind) (e e2 : Expr) → l ≡ kind_variants.Value e → r ≡ kind_variants.Value e2 → (bare_default (kind l) ≡ bare_default (kind r)) ↔ (bare (shape e) ≡ bare (shape e2))
+pub both_value : (l r : ParamKind) (e e2 : Expr) → l ≡ kind_variants.Value e → r ≡ kind_variants.Value e2 → (bare_default (default_of l) ≡ bare_default (default_of r)) ↔ (bare (tree_of e) ≡ bare (tree_of e2))
 both_value l r e e2 left right = rw (left, right, bare_value e, bare_value e2) grind arith
 
 -- the same for a part of a text
@@ -184,7 +179,7 @@ OpensPart p (a_hole _) = (e : Expr) × (p ≡ part_variants.Hole e)
 pub bare_piece : (s : List ℕ) → bare_part (part (part_variants.Piece s)) ≡ a_piece s
 bare_piece s = ap bare_part (part_piece s)
 
-pub bare_hole : (e : Expr) → bare_part (part (part_variants.Hole e)) ≡ a_hole (bare (shape e))
+pub bare_hole : (e : Expr) → bare_part (part (part_variants.Hole e)) ≡ a_hole (bare (tree_of e))
 bare_hole e = ap bare_part (part_hole e)
 
 opened_part : (p m : Part) (d : OfPart) → p ≡ m → bare_part (part m) ≡ d → OpensPart p d → OpensPart p (bare_part (part p))
@@ -192,7 +187,7 @@ opened_part p m d same told opens = subst (OpensPart p) (sym (ap (λ x. bare_par
 
 opens_part_layer : (p : Part) (l : Part-F Node ParamKind Part Body Expr Link Param Prop) → p ≡ roll-Part l → OpensPart p (bare_part (part p))
 opens_part_layer p (Part-F.Piece s) is = let same = is ∙ part_variants.rolls-Piece s in opened_part p (part_variants.Piece s) (a_piece s) same (bare_piece s) (s, same)
-opens_part_layer p (Part-F.Hole e) is = let same = is ∙ part_variants.rolls-Hole e in opened_part p (part_variants.Hole e) (a_hole (bare (shape e))) same (bare_hole e) (e, same)
+opens_part_layer p (Part-F.Hole e) is = let same = is ∙ part_variants.rolls-Hole e in opened_part p (part_variants.Hole e) (a_hole (bare (tree_of e))) same (bare_hole e) (e, same)
 
 opens_part : (p : Part) → OpensPart p (bare_part (part p))
 opens_part p = opens_part_layer p (out-Part p) (sym (roll-out-Part p))
@@ -206,7 +201,7 @@ not_hole l r e is none same = let (e2, found) = subst (OpensPart r) (sym same �
 pub both_piece : (l r : Part) (s s2 : List ℕ) → l ≡ part_variants.Piece s → r ≡ part_variants.Piece s2 → (bare_part (part l) ≡ bare_part (part r)) ↔ (s ≡ s2)
 both_piece l r s s2 left right = rw (left, right, bare_piece s, bare_piece s2) grind arith
 
-pub both_hole : (l r : Part) (e e2 : Expr) → l ≡ part_variants.Hole e → r ≡ part_variants.Hole e2 → (bare_part (part l) ≡ bare_part (part r)) ↔ (bare (shape e) ≡ bare (shape e2))
+pub both_hole : (l r : Part) (e e2 : Expr) → l ≡ part_variants.Hole e → r ≡ part_variants.Hole e2 → (bare_part (part l) ≡ bare_part (part r)) ↔ (bare (tree_of e) ≡ bare (tree_of e2))
 both_hole l r e e2 left right = rw (left, right, bare_hole e, bare_hole e2) grind arith
 
 pub both_script : (l r : Script) → (bare_script (script_tree l) ≡ bare_script (script_tree r)) ↔ ((l.package ≡ r.package) × (map bare_statement (map statement_tree l.statements) ≡ map bare_statement (map statement_tree r.statements)))

@@ -1,4 +1,9 @@
 pub mod Bare
+pub mod Children
+pub mod Free
 pub mod Levels
+pub mod Lists
+pub mod Patterns
+pub mod Places
 pub mod Shape
 pub mod Tree

@@ -102,14 +102,14 @@ param_shape p = record { label = p.label; default = p.default }
 abbrev pub prop_shape : Prop-F Shape Default OfPart OfBody Tree OfLink OfParam OfProp → OfProp
 prop_shape p = record { label = p.label; value = p.value }
 
-unfoldable pub shape : Expr → Tree
-shape = fold-Expr Shape Default OfPart OfBody Tree OfLink OfParam OfProp node_shape kind_shape part_shape body_shape expr_shape link_shape param_shape prop_shape
+unfoldable pub tree_of : Expr → Tree
+tree_of = fold-Expr Shape Default OfPart OfBody Tree OfLink OfParam OfProp node_shape kind_shape part_shape body_shape expr_shape link_shape param_shape prop_shape
 
-unfoldable pub form : Node → Shape
-form = fold-Node Shape Default OfPart OfBody Tree OfLink OfParam OfProp node_shape kind_shape part_shape body_shape expr_shape link_shape param_shape prop_shape
+unfoldable pub shape_of : Node → Shape
+shape_of = fold-Node Shape Default OfPart OfBody Tree OfLink OfParam OfProp node_shape kind_shape part_shape body_shape expr_shape link_shape param_shape prop_shape
 
-unfoldable pub kind : ParamKind → Default
-kind = fold-ParamKind Shape Default OfPart OfBody Tree OfLink OfParam OfProp node_shape kind_shape part_shape body_shape expr_shape link_shape param_shape prop_shape
+unfoldable pub default_of : ParamKind → Default
+default_of = fold-ParamKind Shape Default OfPart OfBody Tree OfLink OfParam OfProp node_shape kind_shape part_shape body_shape expr_shape link_shape param_shape prop_shape
 
 unfoldable pub part : Part → OfPart
 part = fold-Part Shape Default OfPart OfBody Tree OfLink OfParam OfProp node_shape kind_shape part_shape body_shape expr_shape link_shape param_shape prop_shape
@@ -128,9 +128,9 @@ prop = fold-Prop Shape Default OfPart OfBody Tree OfLink OfParam OfProp node_sha
 
 abbrev pub statement_form : Form → StatementForm
 statement_form (Import alias path) = import alias path
-statement_form (Assign x e) = assign x (shape e)
-statement_form (Task e) = task (shape e)
-statement_form (Show e) = show (shape e)
+statement_form (Assign x e) = assign x (tree_of e)
+statement_form (Task e) = task (tree_of e)
+statement_form (Show e) = show (tree_of e)
 
 abbrev pub statement_tree : Statement → StatementTree
 statement_tree s = record { place = s.place; form = statement_form s.form }

@@ -2,7 +2,7 @@ use fx_base::{Boxed, List, Place, Text};
 use fx_time::Span;
 
 /// An expression. Its place is that of its first token, but for an index that of its `[`.
-#[derive(Debug, Drop)]
+#[derive(Drop)]
 #[cycle(tree)]
 pub struct Expr {
     pub place: Place,
@@ -10,7 +10,7 @@ pub struct Expr {
 }
 
 /// What an expression is, by the line of the grammar that it comes from.
-#[derive(Debug, Drop)]
+#[derive(Drop)]
 #[cycle(tree)]
 pub enum Node {
     Int(i64),
@@ -66,7 +66,7 @@ pub enum Node {
 }
 
 /// A part of a text with interpolation.
-#[derive(Debug, Drop)]
+#[derive(Drop)]
 #[cycle(tree)]
 pub enum Part {
     Piece(Text),
@@ -75,7 +75,7 @@ pub enum Part {
 
 /// A label with its expression: a property of a record, an argument of a call, an assignment of a
 /// block.
-#[derive(Debug, Drop)]
+#[derive(Drop)]
 #[cycle(tree)]
 pub struct Prop {
     pub label: Text,
@@ -83,7 +83,7 @@ pub struct Prop {
 }
 
 /// How a parameter gets its value where a call doesn't give one by its label.
-#[derive(Debug, Drop)]
+#[derive(Drop)]
 #[cycle(tree)]
 pub enum ParamKind {
     Required,
@@ -91,7 +91,7 @@ pub enum ParamKind {
     Value(Expr),
 }
 
-#[derive(Debug, Drop)]
+#[derive(Drop)]
 #[cycle(tree)]
 pub struct Param {
     pub label: Text,
@@ -99,7 +99,7 @@ pub struct Param {
 }
 
 /// The body of a function: its assignments, in order, and what it returns.
-#[derive(Debug, Drop)]
+#[derive(Drop)]
 #[cycle(tree)]
 pub struct Body {
     pub lets: List<Prop>,
@@ -127,7 +127,7 @@ pub enum Infix {
 }
 
 /// A further operator of a chain and its right operand. The place is the operator's.
-#[derive(Debug, Drop)]
+#[derive(Drop)]
 #[cycle(tree)]
 pub struct Link {
     pub place: Place,

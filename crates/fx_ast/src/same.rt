@@ -2,7 +2,7 @@
 
 ghost use Rattle.std.specs.Prelude.{◌≡◌, ◌↔◌, IsTrue, map};
 ghost use Rattle.fx_ast.specs.Bare.{bare, bare_shape, bare_trees, bare_parts, bare_props, bare_params, bare_default, bare_links, bare_part, bare_prop, bare_param, bare_link, bare_body, bare_form, bare_statement, bare_script};
-ghost use Rattle.fx_ast.specs.Shape.{shape, form, kind, part, body, link, param, prop, trees_of, parts_of, props_of, links_of, params_of, statement_form, statement_tree, script_tree};
+ghost use Rattle.fx_ast.specs.Shape.{tree_of, shape_of, default_of, part, body, link, param, prop, trees_of, parts_of, props_of, links_of, params_of, statement_form, statement_tree, script_tree};
 
 use crate::expr::{Body, Expr, Infix, Link, Node, Param, ParamKind, Part, Prefix, Prop};
 use crate::script::{Form, Script, Statement};
@@ -59,14 +59,14 @@ fn same_form(left: &Form, right: &Form) -> bool
 
 #[cycle(same)]
 fn same_expr(left: &Expr, right: &Expr) -> bool
-    ensures { IsTrue result ↔ (bare (shape left.now) ≡ bare (shape right.now)) }
+    ensures { IsTrue result ↔ (bare (tree_of left.now) ≡ bare (tree_of right.now)) }
 {
     same_node(left.node.get(), right.node.get())
 }
 
 #[cycle(same)]
 fn same_node(left: &Node, right: &Node) -> bool
-    ensures { IsTrue result ↔ (bare_shape (form left.now) ≡ bare_shape (form right.now)) }
+    ensures { IsTrue result ↔ (bare_shape (shape_of left.now) ≡ bare_shape (shape_of right.now)) }
 {
     match left {
         Node::Int(x) => match right {
@@ -162,7 +162,7 @@ fn same_body(left: &Body, right: &Body) -> bool
 
 #[cycle(same)]
 fn same_exprs(left: &List<Expr>, right: &List<Expr>) -> bool
-    ensures { IsTrue result ↔ (bare_trees (trees_of (map shape left.now)) ≡ bare_trees (trees_of (map shape right.now))) }
+    ensures { IsTrue result ↔ (bare_trees (trees_of (map tree_of left.now)) ≡ bare_trees (trees_of (map tree_of right.now))) }
 {
     let (left, right) = (left.as_slice(), right.as_slice());
     if left.len() != right.len() {
@@ -247,7 +247,7 @@ fn same_param(left: &Param, right: &Param) -> bool
 
 #[cycle(same)]
 fn same_kind(left: &ParamKind, right: &ParamKind) -> bool
-    ensures { IsTrue result ↔ (bare_default (kind left.now) ≡ bare_default (kind right.now)) }
+    ensures { IsTrue result ↔ (bare_default (default_of left.now) ≡ bare_default (default_of right.now)) }
 {
     match left {
         ParamKind::Required => match right {

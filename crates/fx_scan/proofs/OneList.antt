@@ -1,4 +1,4 @@
--- A text has one token list at most, and none where it is stuck.
+-- A text has one token list at most, and none where it is stuck; and it is stuck at one place at most.
 use Rattle.std.proofs.Common.{◌≡◌, ℕ, ◌+◌, true, false, List, [], ◌∷◌, ◌++◌, length, refl, sym, ap, subst, ◌∙◌, arith}
 use Rattle.fx_scan.specs.declared.mode.Mode.{Mode}
 use Rattle.fx_scan.specs.declared.token.Token.{Token}
@@ -16,6 +16,7 @@ still_at_end m = record { no_blank = refl; no_comment = refl; no_token = λ k u 
 -- where two readings end
 record SameEnd (ts us : List Token) (q r : ℕ) (n o : Mode) (y z : Bytes) : Type 0 where
   pub tokens : us ≡ ts
+  pub place : r ≡ q
   pub left : y ≡ z
 
 blank_or : (m : Mode) (w : Bytes) (b : ℕ) (z : Bytes) → w ≡ b ∷ z → is_blank b ≡ true → begins is_blank w ≡ true
@@ -25,7 +26,7 @@ comment_or : (w c z : Bytes) → w ≡ c ++ z → IsComment c z → (begins_comm
 comment_or w c z e h = let on = comment_on c z h.slashes in (ap begins_comment e ∙ on.0, ap (begins is_blank) e ∙ on.1)
 
 one_end : {p q r : ℕ} {m n o : Mode} {w y z : Bytes} {ts us : List Token} → Reads p m w ts q n y → Reads p m w us r o z → IsStill n y → IsStill o z → SameEnd ts us q r n o y z
-one_end nothing nothing h i = record { tokens = refl; left = refl }
+one_end nothing nothing h i = record { tokens = refl; place = refl; left = refl }
 one_end {m = m} {w = w} nothing (blank b z e k more) h i = let first = blank_or m w b z e k in let stop = h.no_blank in absurd cc
 one_end {w = w} nothing (comment c z e k more) h i = let first = (comment_or w c z e k).0 in let stop = h.no_comment in absurd cc
 one_end nothing (token k u z e is more) h i = absurd (h.no_token k u z e is.form)
@@ -51,7 +52,7 @@ one_end {p = p} {r = r} {m = m} {o = o} {w = w} {z = left} (token {ts = ts} k u 
     let place = subst (λ x. Reads (p + length x) (after m j x) z' us r o left) same.0 more' in
     let rest = subst (λ x. Reads (p + length u) (after m j u) x us r o left) same.1 place in
     let ends = one_end {p = p + length u} more (subst (λ x. Reads (p + length u) (after m x u) z us r o left) same.2 rest) h i in
-    record { tokens = ap (λ x. token_at p j x ∷ us) same.0 ∙ ap (λ x. token_at p x u ∷ us) same.2 ∙ ap (λ x. token_at p k u ∷ x) ends.tokens; left = ends.left }
+    record { tokens = ap (λ x. token_at p j x ∷ us) same.0 ∙ ap (λ x. token_at p x u ∷ us) same.2 ∙ ap (λ x. token_at p k u ∷ x) ends.tokens; place = ends.place; left = ends.left }
 
 pub one_list : (text : Bytes) (ts us : List Token) → IsTokenList text ts → IsTokenList text us → us ≡ ts
 one_list text ts us h i = (one_end h.reads i.reads (still_at_end h.mode) (still_at_end i.mode)).tokens
@@ -61,3 +62,6 @@ no_list text place h ts i =
     let same = one_end h.reads i.reads h.still (still_at_end i.mode) in
     let some = h.some in
     omega (arith, ap length same.left)
+
+pub one_place : (text : Bytes) (p q : ℕ) → IsStuck text p → IsStuck text q → q ≡ p
+one_place text p q h i = (one_end h.reads i.reads h.still i.still).place

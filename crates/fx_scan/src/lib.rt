@@ -9,6 +9,7 @@ mod fault;
 mod front;
 mod group;
 mod mode;
+mod names;
 mod scanner;
 mod spans;
 mod symbol_table;
@@ -19,6 +20,7 @@ mod units;
 mod words;
 
 pub use fault::ScanFault;
+pub use names::is_name;
 pub use scanner::scan;
 pub use symbols::{Symbol, symbol_of};
 pub use token::{Token, TokenKind};

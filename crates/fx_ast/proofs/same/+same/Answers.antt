@@ -1,5 +1,5 @@
 use Rattle.fx_ast.specs.Bare.{bare, bare_part, bare_prop, bare_param, bare_link}
-use Rattle.fx_ast.specs.Shape.{shape, part, link, param, prop}
+use Rattle.fx_ast.specs.Shape.{tree_of, part, link, param, prop}
 use Rattle.fx_ast.proofs.BareLaws.{not_int, not_time, not_span, not_text, not_pattern, not_name, not_paren, not_array, not_rec, not_fun, not_call, not_pipe, not_member, not_index, not_chain, not_prefix, not_if, both_int, both_time, both_span, both_text, both_pattern, both_name, both_paren, both_array, both_rec, both_fun, both_call, both_pipe, both_member, both_index, both_chain, both_prefix, both_if}
 use Rattle.fx_ast.proofs.SameLaws.{one, first, second, whole, apart, shorter, differs, ends, exprs_by_item, props_by_item, params_by_item, links_by_item, parts_by_item, expr_is, both_prop, both_param, both_link, both_body, not_required, not_piped, not_value, both_value, not_piece, not_hole, both_piece, both_hole}
 use Rattle.fx_ast.proofs.same.+same.Goals as goal
@@ -189,15 +189,15 @@ same_node-returns-in_default-right-16 t c = apart (not_if c.args.left.now c.args
 
 pub same_exprs-returns-then-left-right : goal.same_exprs-returns-then-left-right
 same_exprs-returns-then-left-right t c =
-    shorter (λ x. bare (shape x)) c.args.left.now c.args.right.now c.as_slice-left.result.now c.as_slice-right.result.now (exprs_by_item c.args.left.now c.args.right.now) c.as_slice-left.ensures c.as_slice-right.ensures c.if-left-right.true
+    shorter (λ x. bare (tree_of x)) c.args.left.now c.args.right.now c.as_slice-left.result.now c.as_slice-right.result.now (exprs_by_item c.args.left.now c.args.right.now) c.as_slice-left.ensures c.as_slice-right.ensures c.if-left-right.true
 
 pub same_exprs-returns-then-not-same_expr : goal.same_exprs-returns-then-not-same_expr
 same_exprs-returns-then-not-same_expr t c =
-    differs (λ x. bare (shape x)) c.args.left.now c.args.right.now c.as_slice-left.result.now c.as_slice-right.result.now c.loop-i.i c.index-left-i.result c.index-right-i.result (exprs_by_item c.args.left.now c.args.right.now) c.as_slice-left.ensures c.as_slice-right.ensures c.if-left-right.false c.loop-i-test.true c.index-left-i.is c.index-right-i.is c.same_expr.ensures c.if-not-same_expr.true
+    differs (λ x. bare (tree_of x)) c.args.left.now c.args.right.now c.as_slice-left.result.now c.as_slice-right.result.now c.loop-i.i c.index-left-i.result c.index-right-i.result (exprs_by_item c.args.left.now c.args.right.now) c.as_slice-left.ensures c.as_slice-right.ensures c.if-left-right.false c.loop-i-test.true c.index-left-i.is c.index-right-i.is c.same_expr.ensures c.if-not-same_expr.true
 
 pub same_exprs-returns : goal.same_exprs-returns
 same_exprs-returns t c =
-    ends (λ x. bare (shape x)) c.args.left.now c.args.right.now c.as_slice-left.result.now c.as_slice-right.result.now c.loop-i.i (exprs_by_item c.args.left.now c.args.right.now) c.as_slice-left.ensures c.as_slice-right.ensures c.if-left-right.false c.loop-i-test.false c.loop-i.invariant
+    ends (λ x. bare (tree_of x)) c.args.left.now c.args.right.now c.as_slice-left.result.now c.as_slice-right.result.now c.loop-i.i (exprs_by_item c.args.left.now c.args.right.now) c.as_slice-left.ensures c.as_slice-right.ensures c.if-left-right.false c.loop-i-test.false c.loop-i.invariant
 
 pub same_props-returns-then-left-right : goal.same_props-returns-then-left-right
 same_props-returns-then-left-right t c =

@@ -1,10 +1,10 @@
 use Rattle.std.proofs.Common.{◌≡◌, take, map}
 use Rattle.fx_ast.specs.Bare.{bare, bare_part, bare_prop, bare_param, bare_link}
-use Rattle.fx_ast.specs.Shape.{shape, part, link, param, prop}
+use Rattle.fx_ast.specs.Shape.{tree_of, part, link, param, prop}
 use Rattle.fx_ast.proofs.same.+same.Given as goal
 
 abbrev pub invariant-same_exprs-loop-i : goal.invariant-same_exprs-loop-i
-invariant-same_exprs-loop-i l = map (λ e. bare (shape e)) (take l.i l.left) ≡ map (λ e. bare (shape e)) (take l.i l.right)
+invariant-same_exprs-loop-i l = map (λ e. bare (tree_of e)) (take l.i l.left) ≡ map (λ e. bare (tree_of e)) (take l.i l.right)
 
 abbrev pub invariant-same_links-loop-i : goal.invariant-same_links-loop-i
 invariant-same_links-loop-i l = map (λ k. bare_link (link k)) (take l.i l.left) ≡ map (λ k. bare_link (link k)) (take l.i l.right)
