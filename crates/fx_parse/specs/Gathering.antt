@@ -1,7 +1,7 @@
 -- What the parser's loops over parameters and over a block's assignments do, with what was found so far. The contract of
 -- parsing cites none of the readings.
 use Rattle.std.specs.Prelude.{ℕ, zero, suc, Bool, false, cond, List, [], ◌∷◌, ◌++◌, map}
-use Rattle.fx_ast.specs.Shape.{OfParam, OfProp, props_of, shape, kind, prop}
+use Rattle.fx_ast.specs.Shape.{OfParam, OfProp, props_of, tree_of, default_of, prop}
 use Rattle.fx_ast.specs.Tree.{Tree, Default, Props}
 use Rattle.fx_scan.specs.declared.symbols.Symbol.TheVariants as symbol
 use Rattle.fx_scan.specs.declared.words.Word.TheVariants as word
@@ -16,13 +16,13 @@ use Rattle.fx_parse.specs.ReadFunctions.{read_default}
 -- ---- how contracts see what was read
 
 abbrev pub param_view : OneParam → List ℕ × Default × Bool
-param_view p = (p.label, kind p.default.how, p.last)
+param_view p = (p.label, default_of p.default.how, p.last)
 
 abbrev pub binding_view : Binding → List ℕ × Tree
-binding_view b = (b.label, shape b.value.tree)
+binding_view b = (b.label, tree_of b.value.tree)
 
 abbrev pub contents_view : Contents → Props × Tree
-contents_view c = (props_of (map prop c.lets.items), shape c.result.tree)
+contents_view c = (props_of (map prop c.lets.items), tree_of c.result.tree)
 
 -- ---- one at a time
 

@@ -1,4 +1,3 @@
-pub mod Ahead
 pub mod Closing
 pub mod Cursor
 pub mod Escapes

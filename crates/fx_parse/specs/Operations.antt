@@ -1,6 +1,6 @@
 -- What the parser's loops over operators and the operands after them do. The contract of parsing cites none of the readings.
 use Rattle.std.specs.Prelude.{ℕ, ◌==◌, cond, List, length, Option}
-use Rattle.fx_ast.specs.Shape.{OfLink, shape}
+use Rattle.fx_ast.specs.Shape.{OfLink, tree_of}
 use Rattle.fx_ast.specs.Tree.{Tree}
 use Rattle.fx_parse.specs.declared.chains.Operation.{Operation}
 use Rattle.fx_parse.specs.Grammar.{Link}
@@ -14,7 +14,7 @@ abbrev pub operation : Link → OfLink
 operation l = record { place = l.mark.place; op = infix_of l.mark.lexeme; right = l.right }
 
 abbrev pub operation_view : Operation → OfLink
-operation_view o = record { place = o.place; op = o.op; right = shape o.right.tree }
+operation_view o = record { place = o.place; op = o.op; right = tree_of o.right.tree }
 
 -- what stands after a `|>`, as a part of a pipe
 abbrev pub call_of : Link → Tree

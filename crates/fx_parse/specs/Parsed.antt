@@ -21,9 +21,9 @@ pub record IsParsed (text : Bytes) (tokens : List Token) (tree : ScriptTree) : T
   pub low : levels tree ≤ 64
 
 -- the place of the first item that is left, or the text's length
-abbrev pub place_of : Bytes → Items → ℕ
-place_of text [] = length text
-place_of text (x ∷ w) = x.place.at
+abbrev pub place_left : Bytes → Items → ℕ
+place_left text [] = length text
+place_left text (x ∷ w) = x.place.at
 
 -- The tokens up to the one at the place, and not with it, begin a list that has a tree of at most 64 levels; or the text
 -- ends there too early. Deep where a tree of more levels goes on with that token.
@@ -32,4 +32,4 @@ pub record IsUnparsed (text : Bytes) (tokens : List Token) (place : ℕ) (deep :
   pub read : AllRead text tokens items
   pub rest : Items
   pub refusal : IsRefusal 64 items deep rest
-  pub at : place ≡ place_of text rest
+  pub at : place ≡ place_left text rest

@@ -7,10 +7,10 @@ use Rattle.fx_scan.specs.Forms.{Bytes}
 use Rattle.fx_parse.specs.declared.fault.ParseFault.{ParseFault}
 use Rattle.fx_parse.specs.declared.fault.ParseFault.TheVariants as fault
 use Rattle.fx_parse.specs.Items.{Items}
-use Rattle.fx_parse.specs.Parsed.{place_of}
+use Rattle.fx_parse.specs.Parsed.{place_left}
 use Rattle.fx_parse.specs.Readings.{Out, Got, Bad}
 
 abbrev pub Told : Bytes → Out ScriptTree → Result Script ParseFault → Type 0
 Told text o (Ok s) = (rest : Items) × (o ≡ Got (script_tree s) rest)
 Told text o (Err fault.Memory) = Unit {0}
-Told text o (Err (fault.Refused place deep)) = (rest : Items) × (o ≡ Bad deep rest) × (place.at ≡ place_of text rest)
+Told text o (Err (fault.Refused place deep)) = (rest : Items) × (o ≡ Bad deep rest) × (place.at ≡ place_left text rest)

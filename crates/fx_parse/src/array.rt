@@ -2,7 +2,7 @@
 
 ghost use Rattle.std.specs.Prelude.{◌≡◌, ◌≤◌, length, map, Some, None, IfOk};
 ghost use Rattle.fx_parse.specs.Cursor.{Gives};
-ghost use Rattle.fx_parse.specs.Nests.{Nests, tree_of};
+ghost use Rattle.fx_parse.specs.Nests.{Nests, tree_in};
 ghost use Rattle.fx_parse.specs.ReadExprs.{read_expr};
 ghost use Rattle.fx_parse.specs.Closing.{read_element};
 ghost use Rattle.fx_parse.specs.ReadPrimary.{read_array, read_elements};
@@ -61,7 +61,7 @@ impl<F: Fn(Global, &mut Cursor<'_>, u8, Phrase) -> Result<Measured, Stop>> Gramm
     pub(crate) fn array(&self, cursor: &mut Cursor<'_>, levels: u8) -> Result<Measured, Stop>
         requires nests { Nests self.now.depth (F.pre self.now.read) (F.post self.now.read) }
         requires within { levels ≤ self.now.depth }
-        ensures { Gives tree_of (read_array levels (read_expr levels) cursor.old) result cursor.new }
+        ensures { Gives tree_in (read_array levels (read_expr levels) cursor.old) result cursor.new }
     {
         let open = cursor.symbol(Symbol::OpenBracket)?;
         let items = self.elements(cursor, levels)?;

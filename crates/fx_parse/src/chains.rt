@@ -1,11 +1,11 @@
 //! Operators between operands.
 
 ghost use Rattle.std.specs.Prelude.{◌≡◌, ◌<◌, suc, map, None, Some, true};
-ghost use Rattle.fx_ast.specs.Shape.{link, links_of, shape, trees_of};
+ghost use Rattle.fx_ast.specs.Shape.{link, links_of, tree_of, trees_of};
 ghost use Rattle.fx_ast.specs.Tree.{chain, pipe, tree};
 ghost use Rattle.fx_parse.specs.Cursor.{Gives};
 ghost use Rattle.fx_parse.specs.Grammar.{run};
-ghost use Rattle.fx_parse.specs.Nests.{Nests, tree_of};
+ghost use Rattle.fx_parse.specs.Nests.{Nests, tree_in};
 ghost use Rattle.fx_parse.specs.Operations.{call_of, operand_of, operation, operation_view, operations};
 ghost use Rattle.fx_parse.specs.Readings.{mapped};
 ghost use Rattle.fx_parse.specs.ReadRuns.{has_room, need, read_link};
@@ -39,7 +39,7 @@ fn need(line: u8) -> u8
 
 /// Whether there are levels enough for an operator after the operand.
 fn has_room(operand: &Measured, line: u8, levels: u8) -> bool
-    ensures { result ≡ has_room levels line (Some (shape operand.now.tree)) }
+    ensures { result ≡ has_room levels line (Some (tree_of operand.now.tree)) }
 {
     operand.fits(levels) && need(line) <= levels
 }
@@ -49,7 +49,7 @@ impl<F: Fn(Global, &mut Cursor<'_>, u8, Phrase) -> Result<Measured, Stop>> Gramm
     #[tactic(auto, unfolding(crate::specs::ReadExprs::read_phrase))]
     fn operand(&self, cursor: &mut Cursor<'_>, line: u8) -> Result<Measured, Stop>
         requires nests { Nests self.now.depth (F.pre self.now.read) (F.post self.now.read) }
-        ensures { Gives tree_of (operand_of self.now.depth line cursor.old) result cursor.new }
+        ensures { Gives tree_in (operand_of self.now.depth line cursor.old) result cursor.new }
     {
         if line == 1 {
             return self.phrase(cursor, self.depth, Phrase::Called);
@@ -76,7 +76,7 @@ impl<F: Fn(Global, &mut Cursor<'_>, u8, Phrase) -> Result<Measured, Stop>> Gramm
     #[tactic(auto, unfolding(crate::specs::ReadRuns::read_link))]
     fn piped(&self, cursor: &mut Cursor<'_>) -> Result<Measured, Stop>
         requires nests { Nests self.now.depth (F.pre self.now.read) (F.post self.now.read) }
-        ensures { Gives tree_of (mapped call_of (read_link 1 (operand_of self.now.depth 1) cursor.old)) result cursor.new }
+        ensures { Gives tree_in (mapped call_of (read_link 1 (operand_of self.now.depth 1) cursor.old)) result cursor.new }
     {
         take_operator(cursor, 1)?;
         self.operand(cursor, 1)
@@ -100,7 +100,7 @@ impl<F: Fn(Global, &mut Cursor<'_>, u8, Phrase) -> Result<Measured, Stop>> Gramm
 
     fn calls(&self, cursor: &mut Cursor<'_>) -> Result<ExprList, Stop>
         requires nests { Nests self.now.depth (F.pre self.now.read) (F.post self.now.read) }
-        ensures { Gives (λ es. map shape es.items) (mapped (map call_of) (operations self.now.depth 1 None cursor.old)) result cursor.new }
+        ensures { Gives (λ es. map tree_of es.items) (mapped (map call_of) (operations self.now.depth 1 None cursor.old)) result cursor.new }
     {
         let mut found = ExprList::empty(self.alloc);
         for _turn in 0..cursor.count() {
@@ -121,7 +121,7 @@ impl<F: Fn(Global, &mut Cursor<'_>, u8, Phrase) -> Result<Measured, Stop>> Gramm
         operand: Measured,
     ) -> Result<Measured, Stop>
         requires nests { Nests self.now.depth (F.pre self.now.read) (F.post self.now.read) }
-        ensures { Gives tree_of (mapped (λ es. tree begin (pipe (shape operand.tree) (trees_of es))) (mapped (map call_of) (operations self.now.depth 1 None cursor.old))) result cursor.new }
+        ensures { Gives tree_in (mapped (λ es. tree begin (pipe (tree_of operand.tree) (trees_of es))) (mapped (map call_of) (operations self.now.depth 1 None cursor.old))) result cursor.new }
     {
         let calls = self.calls(cursor)?;
         Ok(nodes::pipe(self.alloc, begin, operand, calls)?)
@@ -137,7 +137,7 @@ impl<F: Fn(Global, &mut Cursor<'_>, u8, Phrase) -> Result<Measured, Stop>> Gramm
     ) -> Result<Measured, Stop>
         requires nests { Nests self.now.depth (F.pre self.now.read) (F.post self.now.read) }
         requires low { line < 255 }
-        ensures { Gives tree_of (mapped (λ ls. tree begin (chain (shape operand.tree) (links_of ls))) (mapped (map operation) (operations self.now.depth line None cursor.old))) result cursor.new }
+        ensures { Gives tree_in (mapped (λ ls. tree begin (chain (tree_of operand.tree) (links_of ls))) (mapped (map operation) (operations self.now.depth line None cursor.old))) result cursor.new }
     {
         let rest = self.operations(cursor, line)?;
         Ok(nodes::chain(self.alloc, begin, operand, rest)?)
@@ -153,7 +153,7 @@ impl<F: Fn(Global, &mut Cursor<'_>, u8, Phrase) -> Result<Measured, Stop>> Gramm
     ) -> Result<Measured, Stop>
         requires nests { Nests self.now.depth (F.pre self.now.read) (F.post self.now.read) }
         requires low { line < 255 }
-        ensures { Gives tree_of (mapped (run (suc line) begin (shape operand.tree)) (operations self.now.depth line (Some (shape operand.tree)) cursor.old)) result cursor.new }
+        ensures { Gives tree_in (mapped (run (suc line) begin (tree_of operand.tree)) (operations self.now.depth line (Some (tree_of operand.tree)) cursor.old)) result cursor.new }
     {
         if !sees_operator(cursor, line) {
             return Ok(operand);

@@ -1,9 +1,9 @@
 //! `if`.
 
 ghost use Rattle.std.specs.Prelude.{◌≡◌};
-ghost use Rattle.fx_ast.specs.Shape.{shape};
+ghost use Rattle.fx_ast.specs.Shape.{tree_of};
 ghost use Rattle.fx_parse.specs.Cursor.{Gives};
-ghost use Rattle.fx_parse.specs.Nests.{Nests, tree_of};
+ghost use Rattle.fx_parse.specs.Nests.{Nests, tree_in};
 ghost use Rattle.fx_parse.specs.ReadExprs.{read_called, read_expr, read_level};
 ghost use Rattle.fx_parse.specs.Readings.{Got, Bad, links, mapped};
 ghost use Rattle.fx_parse.specs.ReadRuns.{read_choice};
@@ -21,7 +21,7 @@ impl<F: Fn(Global, &mut Cursor<'_>, u8, Phrase) -> Result<Measured, Stop>> Gramm
     #[tactic(auto, unfolding(crate::specs::ReadRuns::read_choice))]
     pub(crate) fn choice(&self, cursor: &mut Cursor<'_>) -> Result<Measured, Stop>
         requires nests { Nests self.now.depth (F.pre self.now.read) (F.post self.now.read) }
-        ensures { Gives tree_of (read_choice self.now.depth (read_expr self.now.depth) cursor.old) result cursor.new }
+        ensures { Gives tree_in (read_choice self.now.depth (read_expr self.now.depth) cursor.old) result cursor.new }
     {
         if self.depth == 0 {
             return Err(Stop::Refused { deep: true });

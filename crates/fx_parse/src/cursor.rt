@@ -304,7 +304,7 @@ impl<'a> Cursor<'a> {
     }
 
     /// Whether a name and `with` are next.
-    #[tactic(auto, using(crate::proofs::TextLaws::with_seen))]
+    #[tactic(auto, using(crate::proofs::turns::TextLaws::with_seen))]
     pub(crate) fn sees_with(&self) -> bool
         ensures { result ≡ sees_with self.now }
     {

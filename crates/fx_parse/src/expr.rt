@@ -2,7 +2,7 @@
 
 ghost use Rattle.std.specs.Prelude.{◌≡◌, suc};
 ghost use Rattle.fx_parse.specs.Cursor.{Gives};
-ghost use Rattle.fx_parse.specs.Nests.{Nests, tree_of};
+ghost use Rattle.fx_parse.specs.Nests.{Nests, tree_in};
 ghost use Rattle.fx_parse.specs.ReadExprs.{read_called, read_expr, read_level, read_phrase};
 
 use crate::cursor::Cursor;
@@ -19,7 +19,7 @@ impl<F: Fn(Global, &mut Cursor<'_>, u8, Phrase) -> Result<Measured, Stop>> Gramm
     /// A phrase of the line.
     fn line(&self, cursor: &mut Cursor<'_>, line: u8) -> Result<Measured, Stop>
         requires nests { Nests self.now.depth (F.pre self.now.read) (F.post self.now.read) }
-        ensures { Gives tree_of (read_level (suc self.now.depth) line cursor.old) result cursor.new }
+        ensures { Gives tree_in (read_level (suc self.now.depth) line cursor.old) result cursor.new }
     {
         if line == 0 {
             return self.postfix(cursor, false, self.depth);
@@ -36,7 +36,7 @@ impl<F: Fn(Global, &mut Cursor<'_>, u8, Phrase) -> Result<Measured, Stop>> Gramm
     #[tactic(auto, unfolding(crate::specs::ReadExprs::read_whole, crate::specs::ReadExprs::read_expr))]
     fn whole(&self, cursor: &mut Cursor<'_>) -> Result<Measured, Stop>
         requires nests { Nests self.now.depth (F.pre self.now.read) (F.post self.now.read) }
-        ensures { Gives tree_of (read_expr (suc self.now.depth) cursor.old) result cursor.new }
+        ensures { Gives tree_in (read_expr (suc self.now.depth) cursor.old) result cursor.new }
     {
         if cursor.sees_word(Word::If) {
             return self.choice(cursor);
@@ -50,7 +50,7 @@ impl<F: Fn(Global, &mut Cursor<'_>, u8, Phrase) -> Result<Measured, Stop>> Gramm
     /// A postfix that ends in a call.
     fn called(&self, cursor: &mut Cursor<'_>) -> Result<Measured, Stop>
         requires nests { Nests self.now.depth (F.pre self.now.read) (F.post self.now.read) }
-        ensures { Gives tree_of (read_called (suc self.now.depth) cursor.old) result cursor.new }
+        ensures { Gives tree_in (read_called (suc self.now.depth) cursor.old) result cursor.new }
     {
         if self.depth == 0 {
             return Err(Stop::Refused { deep: false });
@@ -62,7 +62,7 @@ impl<F: Fn(Global, &mut Cursor<'_>, u8, Phrase) -> Result<Measured, Stop>> Gramm
     #[tactic(auto, unfolding(crate::specs::ReadExprs::read_phrase))]
     fn top_phrase(&self, cursor: &mut Cursor<'_>, phrase: Phrase) -> Result<Measured, Stop>
         requires nests { Nests self.now.depth (F.pre self.now.read) (F.post self.now.read) }
-        ensures { Gives tree_of (read_phrase (suc self.now.depth) phrase cursor.old) result cursor.new }
+        ensures { Gives tree_in (read_phrase (suc self.now.depth) phrase cursor.old) result cursor.new }
     {
         match phrase {
             Phrase::Whole => self.whole(cursor),
@@ -79,7 +79,7 @@ pub(crate) fn read(
     levels: u8,
     phrase: Phrase,
 ) -> Result<Measured, Stop>
-    ensures { Gives tree_of (read_phrase levels phrase cursor.old) result cursor.new }
+    ensures { Gives tree_in (read_phrase levels phrase cursor.old) result cursor.new }
 {
     if levels == 0 {
         return Err(Stop::Refused { deep: false });

@@ -1,11 +1,11 @@
 //! Functions: parameters, defaults, blocks and bodies.
 
 ghost use Rattle.std.specs.Prelude.{◌≡◌, ◌≤◌, [], length, map, IfOk};
-ghost use Rattle.fx_ast.specs.Shape.{kind, param, params_of, prop, props_of, shape};
+ghost use Rattle.fx_ast.specs.Shape.{default_of, param, params_of, prop, props_of, tree_of};
 ghost use Rattle.fx_ast.specs.Tree.{by_pipe, by_value, fun, required, tree};
 ghost use Rattle.fx_parse.specs.Cursor.{Gives};
 ghost use Rattle.fx_parse.specs.Gathering.{binding_view, block_from, contents_view, param_view, params_from, read_binding, read_param, read_return};
-ghost use Rattle.fx_parse.specs.Nests.{Nests, tree_of};
+ghost use Rattle.fx_parse.specs.Nests.{Nests, tree_in};
 ghost use Rattle.fx_parse.specs.ReadExprs.{read_expr};
 ghost use Rattle.fx_parse.specs.ReadFunctions.{read_block, read_body, read_default, read_function, read_params};
 
@@ -43,9 +43,9 @@ struct Contents {
     result: Measured,
 }
 
-#[tactic(auto, using(crate::proofs::BodyLaws::default_laws), unfolding(fx_ast::specs::Levels::height))]
+#[tactic(auto, using(fx_ast::proofs::ShapeLaws::default_laws), unfolding(fx_ast::specs::Levels::height))]
 fn required() -> Default
-    ensures { kind result.how ≡ required }
+    ensures { default_of result.how ≡ required }
 {
     Default {
         how: ParamKind::Required,
@@ -53,9 +53,9 @@ fn required() -> Default
     }
 }
 
-#[tactic(auto, using(crate::proofs::BodyLaws::default_laws), unfolding(fx_ast::specs::Levels::height))]
+#[tactic(auto, using(fx_ast::proofs::ShapeLaws::default_laws), unfolding(fx_ast::specs::Levels::height))]
 fn by_pipe() -> Default
-    ensures { kind result.how ≡ by_pipe }
+    ensures { default_of result.how ≡ by_pipe }
 {
     Default {
         how: ParamKind::Pipe,
@@ -63,9 +63,9 @@ fn by_pipe() -> Default
     }
 }
 
-#[tactic(auto, using(crate::proofs::BodyLaws::default_laws), unfolding(fx_ast::specs::Levels::height))]
+#[tactic(auto, using(fx_ast::proofs::ShapeLaws::default_laws), unfolding(fx_ast::specs::Levels::height))]
 fn by_value(value: Measured) -> Default
-    ensures { kind result.how ≡ by_value (shape value.tree) }
+    ensures { default_of result.how ≡ by_value (tree_of value.tree) }
 {
     Default {
         how: ParamKind::Value(value.tree),
@@ -74,14 +74,14 @@ fn by_value(value: Measured) -> Default
 }
 
 /// The node of a function.
-#[tactic(auto, using(crate::proofs::NodeLaws::fun_node, crate::proofs::BodyLaws::body_made))]
+#[tactic(auto, using(crate::proofs::turns::NodeLaws::fun_node, fx_ast::proofs::ShapeLaws::body_made))]
 fn function(
     alloc: Global,
     place: Place,
     params: ParamList,
     contents: Contents,
 ) -> Result<Measured, Memory>
-    ensures { IfOk result (λ m. shape m.tree ≡ tree place (fun (params_of (map param params.items)) (contents_view contents).0 (contents_view contents).1)) }
+    ensures { IfOk result (λ m. tree_of m.tree ≡ tree place (fun (params_of (map param params.items)) (contents_view contents).0 (contents_view contents).1)) }
 {
     let Contents { lets, result } = contents;
     let below = params.levels.max(lets.levels.max(result.levels));
@@ -102,7 +102,7 @@ impl<F: Fn(Global, &mut Cursor<'_>, u8, Phrase) -> Result<Measured, Stop>> Gramm
     fn default(&self, cursor: &mut Cursor<'_>, levels: u8) -> Result<Default, Stop>
         requires nests { Nests self.now.depth (F.pre self.now.read) (F.post self.now.read) }
         requires within { levels ≤ self.now.depth }
-        ensures { Gives (λ d. kind d.how) (read_default (read_expr levels) cursor.old) result cursor.new }
+        ensures { Gives (λ d. default_of d.how) (read_default (read_expr levels) cursor.old) result cursor.new }
     {
         if !cursor.sees_symbol(Symbol::Assign) {
             return Ok(required());
@@ -153,7 +153,7 @@ impl<F: Fn(Global, &mut Cursor<'_>, u8, Phrase) -> Result<Measured, Stop>> Gramm
     fn returned(&self, cursor: &mut Cursor<'_>, levels: u8) -> Result<Measured, Stop>
         requires nests { Nests self.now.depth (F.pre self.now.read) (F.post self.now.read) }
         requires within { levels ≤ self.now.depth }
-        ensures { Gives tree_of (read_return (read_expr levels) cursor.old) result cursor.new }
+        ensures { Gives tree_in (read_return (read_expr levels) cursor.old) result cursor.new }
     {
         cursor.word(Word::Return)?;
         let result = self.inner(cursor, levels)?;
@@ -190,7 +190,7 @@ impl<F: Fn(Global, &mut Cursor<'_>, u8, Phrase) -> Result<Measured, Stop>> Gramm
     fn block_found(&self, cursor: &mut Cursor<'_>, levels: u8) -> Result<Contents, Stop>
         requires nests { Nests self.now.depth (F.pre self.now.read) (F.post self.now.read) }
         requires within { levels ≤ self.now.depth }
-        ensures { Gives (λ b. (map prop b.lets.items, shape b.result.tree)) (block_from (read_expr levels) (length cursor.old) [] cursor.old) result cursor.new }
+        ensures { Gives (λ b. (map prop b.lets.items, tree_of b.result.tree)) (block_from (read_expr levels) (length cursor.old) [] cursor.old) result cursor.new }
     {
         let mut lets = PropList::empty(self.alloc);
         for _turn in 0..cursor.count() {
@@ -245,7 +245,7 @@ impl<F: Fn(Global, &mut Cursor<'_>, u8, Phrase) -> Result<Measured, Stop>> Gramm
     pub(crate) fn function(&self, cursor: &mut Cursor<'_>, levels: u8) -> Result<Measured, Stop>
         requires nests { Nests self.now.depth (F.pre self.now.read) (F.post self.now.read) }
         requires within { levels ≤ self.now.depth }
-        ensures { Gives tree_of (read_function levels (read_expr levels) cursor.old) result cursor.new }
+        ensures { Gives tree_in (read_function levels (read_expr levels) cursor.old) result cursor.new }
     {
         if levels == 0 {
             return Err(Stop::Refused { deep: true });

@@ -3,7 +3,7 @@
 
 ghost use Rattle.std.specs.Prelude.{◌≡◌, ◌≤◌};
 ghost use Rattle.fx_parse.specs.Cursor.{Gives};
-ghost use Rattle.fx_parse.specs.Nests.{Nests, tree_of};
+ghost use Rattle.fx_parse.specs.Nests.{Nests, tree_in};
 ghost use Rattle.fx_parse.specs.ReadExprs.{read_expr, read_phrase};
 
 use crate::cursor::Cursor;
@@ -30,7 +30,7 @@ impl<F: Fn(Global, &mut Cursor<'_>, u8, Phrase) -> Result<Measured, Stop>> Gramm
     ) -> Result<Measured, Stop>
         requires nests { Nests self.now.depth (F.pre self.now.read) (F.post self.now.read) }
         requires within { levels ≤ self.now.depth }
-        ensures { Gives tree_of (read_phrase levels phrase cursor.old) result cursor.new }
+        ensures { Gives tree_in (read_phrase levels phrase cursor.old) result cursor.new }
     {
         (self.read)(self.alloc, cursor, levels, phrase)
     }
@@ -40,7 +40,7 @@ impl<F: Fn(Global, &mut Cursor<'_>, u8, Phrase) -> Result<Measured, Stop>> Gramm
     pub(crate) fn inner(&self, cursor: &mut Cursor<'_>, levels: u8) -> Result<Measured, Stop>
         requires nests { Nests self.now.depth (F.pre self.now.read) (F.post self.now.read) }
         requires within { levels ≤ self.now.depth }
-        ensures { Gives tree_of (read_expr levels cursor.old) result cursor.new }
+        ensures { Gives tree_in (read_expr levels cursor.old) result cursor.new }
     {
         self.phrase(cursor, levels, Phrase::Whole)
     }

@@ -2,13 +2,13 @@
 
 ghost use Rattle.std.specs.Prelude.{◌≡◌, ◌≤◌, length, map, Some, None, IfOk};
 ghost use Rattle.fx_parse.specs.Cursor.{Gives};
-ghost use Rattle.fx_parse.specs.Nests.{Nests, tree_of};
+ghost use Rattle.fx_parse.specs.Nests.{Nests, tree_in};
 ghost use Rattle.fx_parse.specs.ReadExprs.{read_expr};
 ghost use Rattle.fx_parse.specs.Closing.{read_hole, read_piece};
 ghost use Rattle.fx_parse.specs.ReadPrimary.{read_holes, read_text};
 ghost use Rattle.fx_parse.specs.Readings.{mapped};
 ghost use Rattle.fx_parse.specs.Views.{a_hole, parts};
-ghost use Rattle.fx_parse.specs.Ahead.{parts_before};
+ghost use Rattle.fx_ast.specs.Lists.{parts_before};
 
 use crate::cursor::Cursor;
 use crate::grammar::Grammar;
@@ -70,11 +70,11 @@ impl<F: Fn(Global, &mut Cursor<'_>, u8, Phrase) -> Result<Measured, Stop>> Gramm
     }
 
     /// A text with holes.
-    #[tactic(auto, using(crate::proofs::TextLaws::holed_text), unfolding(crate::specs::ReadPrimary::read_text))]
+    #[tactic(auto, using(crate::proofs::turns::TextLaws::holed_text), unfolding(crate::specs::ReadPrimary::read_text))]
     pub(crate) fn text(&self, cursor: &mut Cursor<'_>, levels: u8) -> Result<Measured, Stop>
         requires nests { Nests self.now.depth (F.pre self.now.read) (F.post self.now.read) }
         requires within { levels ≤ self.now.depth }
-        ensures { Gives tree_of (read_text levels (read_expr levels) cursor.old) result cursor.new }
+        ensures { Gives tree_in (read_text levels (read_expr levels) cursor.old) result cursor.new }
     {
         if levels == 0 {
             return Err(Stop::Refused { deep: true });

@@ -5,7 +5,7 @@ ghost use Rattle.fx_ast.specs.declared.expr.Prop.{roll-Prop};
 ghost use Rattle.fx_ast.specs.declared.expr.Link.{roll-Link};
 ghost use Rattle.fx_ast.specs.declared.expr.Param.{roll-Param};
 ghost use Rattle.fx_ast.specs.declared.expr.Part.TheVariants as part_variants;
-ghost use Rattle.fx_ast.specs.Shape.{OfPart, OfProp, OfParam, OfLink, a_piece, a_hole, shape, kind, part, prop, param, link, trees_of, parts_of, props_of, params_of, links_of};
+ghost use Rattle.fx_ast.specs.Shape.{OfPart, OfProp, OfParam, OfLink, a_piece, a_hole, tree_of, default_of, part, prop, param, link, trees_of, parts_of, props_of, params_of, links_of};
 ghost use Rattle.fx_ast.specs.Levels.{in_trees, in_parts, in_props, in_params, in_links, in_default};
 ghost use Rattle.fx_parse.specs.Measures.{capped};
 
@@ -18,7 +18,7 @@ use std::alloc::Global;
 pub(crate) struct ExprList {
     pub(crate) items: List<Expr>,
     pub(crate) levels: usize,
-    ghost tall: { levels ≡ capped (in_trees (trees_of (map shape items))) },
+    ghost tall: { levels ≡ capped (in_trees (trees_of (map tree_of items))) },
 }
 
 impl ExprList {
@@ -32,7 +32,7 @@ impl ExprList {
         }
     }
 
-    #[tactic(auto, using(crate::proofs::ListLaws::trees_push))]
+    #[tactic(auto, using(fx_ast::proofs::LevelLaws::in_trees_push))]
     pub(crate) fn push(&mut self, item: Measured) -> Result<(), Memory>
         ensures { OnOk result (self.new.items ≡ self.old.items ++ item.tree ∷ []) }
     {
@@ -60,7 +60,7 @@ impl PropList {
         }
     }
 
-    #[tactic(auto, using(crate::proofs::ListLaws::props_push))]
+    #[tactic(auto, using(fx_ast::proofs::LevelLaws::in_props_push))]
     pub(crate) fn push(&mut self, label: Text, value: Measured) -> Result<(), Memory>
         ensures { OnOk result (self.new.items ≡ self.old.items ++ roll-Prop (record { label = label; value = value.tree }) ∷ []) }
     {
@@ -92,14 +92,14 @@ impl PartList {
         }
     }
 
-    #[tactic(auto, using(crate::proofs::ListLaws::piece_push))]
+    #[tactic(auto, using(fx_ast::proofs::LevelLaws::in_pieces_push))]
     pub(crate) fn push_piece(&mut self, text: Text) -> Result<(), Memory>
         ensures { OnOk result (self.new.items ≡ self.old.items ++ part_variants.Piece text ∷ []) }
     {
         self.items.push(Part::Piece(text))
     }
 
-    #[tactic(auto, using(crate::proofs::ListLaws::hole_push))]
+    #[tactic(auto, using(fx_ast::proofs::LevelLaws::in_holes_push))]
     pub(crate) fn push_hole(&mut self, inner: Measured) -> Result<(), Memory>
         ensures { OnOk result (self.new.items ≡ self.old.items ++ part_variants.Hole inner.tree ∷ []) }
     {
@@ -127,7 +127,7 @@ impl LinkList {
         }
     }
 
-    #[tactic(auto, using(crate::proofs::ListLaws::links_push))]
+    #[tactic(auto, using(fx_ast::proofs::LevelLaws::in_links_push))]
     pub(crate) fn push(&mut self, place: Place, op: Infix, right: Measured) -> Result<(), Memory>
         ensures { OnOk result (self.new.items ≡ self.old.items ++ roll-Link (record { place = place; op = op; right = right.tree }) ∷ []) }
     {
@@ -147,7 +147,7 @@ impl LinkList {
 pub(crate) struct Default {
     pub(crate) how: ParamKind,
     pub(crate) levels: usize,
-    ghost tall: { levels ≡ capped (in_default (kind how)) },
+    ghost tall: { levels ≡ capped (in_default (default_of how)) },
 }
 
 #[derive(Drop)]
@@ -168,7 +168,7 @@ impl ParamList {
         }
     }
 
-    #[tactic(auto, using(crate::proofs::ListLaws::params_push))]
+    #[tactic(auto, using(fx_ast::proofs::LevelLaws::in_params_push))]
     pub(crate) fn push(&mut self, label: Text, default: Default) -> Result<(), Memory>
         ensures { OnOk result (self.new.items ≡ self.old.items ++ roll-Param (record { label = label; default = default.how }) ∷ []) }
     {

@@ -1,7 +1,7 @@
 //! Literals, and names by themselves.
 
 ghost use Rattle.std.specs.Prelude.{◌≡◌, IfOk};
-ghost use Rattle.fx_ast.specs.Shape.{shape};
+ghost use Rattle.fx_ast.specs.Shape.{tree_of};
 ghost use Rattle.fx_ast.specs.Tree.{no_parts, piece, text, tree};
 ghost use Rattle.fx_parse.specs.Items.{literal};
 
@@ -13,9 +13,9 @@ use fx_base::{Memory, Place, Text};
 use std::alloc::Global;
 
 /// A text without interpolation.
-#[tactic(auto, using(crate::proofs::TextLaws::pieces))]
+#[tactic(auto, using(crate::proofs::turns::TextLaws::pieces))]
 fn plain(alloc: Global, place: Place, says: &Text) -> Result<Measured, Memory>
-    ensures { IfOk result (λ m. shape m.tree ≡ tree place (text (piece says.now no_parts))) }
+    ensures { IfOk result (λ m. tree_of m.tree ≡ tree place (text (piece says.now no_parts))) }
 {
     let mut parts = PartList::empty(alloc);
     parts.push_piece(says.copy()?)?;
@@ -25,7 +25,7 @@ fn plain(alloc: Global, place: Place, says: &Text) -> Result<Measured, Memory>
 /// The expression that an item is by itself. No other items than literals and names are asked.
 #[tactic(auto, unfolding(crate::specs::Items::literal_shape))]
 pub(crate) fn literal(alloc: Global, item: &Item) -> Result<Measured, Memory>
-    ensures { IfOk result (λ m. shape m.tree ≡ literal item.now) }
+    ensures { IfOk result (λ m. tree_of m.tree ≡ literal item.now) }
 {
     match &item.lexeme {
         Lexeme::Int(value) => nodes::int(alloc, item.place, *value),

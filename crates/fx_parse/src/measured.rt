@@ -1,7 +1,7 @@
 //! Expressions that were read, with what the parser asks of them.
 
 ghost use Rattle.std.specs.Prelude.{◌≡◌, false, None, IfOk, nat_le};
-ghost use Rattle.fx_ast.specs.Shape.{form, shape};
+ghost use Rattle.fx_ast.specs.Shape.{shape_of, tree_of};
 ghost use Rattle.fx_ast.specs.Tree.{tree};
 ghost use Rattle.fx_parse.specs.Grammar.{is_call};
 ghost use Rattle.fx_ast.specs.Levels.{below, height};
@@ -20,15 +20,15 @@ pub(crate) struct Measured {
     pub(crate) call: bool,
     /// What it says where it is a text without interpolation.
     pub(crate) plain: Option<Text>,
-    ghost tall: { levels ≡ capped (height (shape tree)) },
-    ghost calls: { call ≡ is_call (shape tree) },
-    ghost says: { plain ≡ plain_of (shape tree) },
+    ghost tall: { levels ≡ capped (height (tree_of tree)) },
+    ghost calls: { call ≡ is_call (tree_of tree) },
+    ghost says: { plain ≡ plain_of (tree_of tree) },
 }
 
 impl Measured {
     /// Whether it has at most so many levels.
     pub(crate) fn fits(&self, levels: u8) -> bool
-        ensures { result ≡ nat_le (height (shape self.now.tree)) levels }
+        ensures { result ≡ nat_le (height (tree_of self.now.tree)) levels }
     {
         self.levels <= usize::from(levels)
     }
@@ -43,10 +43,10 @@ pub(crate) fn made(
     call: bool,
     plain: Option<Text>,
 ) -> Result<Measured, Memory>
-    requires tall { lower ≡ capped (below (form node)) }
-    requires calls { call ≡ is_call (tree place (form node)) }
-    requires says { plain ≡ plain_of (tree place (form node)) }
-    ensures { IfOk result (λ m. shape m.tree ≡ tree place (form node)) }
+    requires tall { lower ≡ capped (below (shape_of node)) }
+    requires calls { call ≡ is_call (tree place (shape_of node)) }
+    requires says { plain ≡ plain_of (tree place (shape_of node)) }
+    ensures { IfOk result (λ m. tree_of m.tree ≡ tree place (shape_of node)) }
 {
     let tree = Expr {
         place,
@@ -67,10 +67,10 @@ pub(crate) fn usual(
     node: Node,
     lower: usize,
 ) -> Result<Measured, Memory>
-    requires tall { lower ≡ capped (below (form node)) }
-    requires calls { is_call (tree place (form node)) ≡ false }
-    requires says { plain_of (tree place (form node)) ≡ None }
-    ensures { IfOk result (λ m. shape m.tree ≡ tree place (form node)) }
+    requires tall { lower ≡ capped (below (shape_of node)) }
+    requires calls { is_call (tree place (shape_of node)) ≡ false }
+    requires says { plain_of (tree place (shape_of node)) ≡ None }
+    ensures { IfOk result (λ m. tree_of m.tree ≡ tree place (shape_of node)) }
 {
     made(alloc, place, node, lower, false, None)
 }

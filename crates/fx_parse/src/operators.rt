@@ -11,7 +11,7 @@ use crate::predicates;
 use crate::stop::Stop;
 
 /// Whether an operator before an operand of the line is next.
-#[tactic(auto, using(crate::proofs::Lines::before_item))]
+#[tactic(auto, using(crate::proofs::sorts::Lines::before_item))]
 pub(crate) fn sees_prefix(cursor: &Cursor<'_>, line: u8) -> bool
     requires { 0 < line }
     ensures { result ≡ passes (one_of (prefixes line)) (first cursor.now) }
@@ -23,7 +23,7 @@ pub(crate) fn sees_prefix(cursor: &Cursor<'_>, line: u8) -> bool
 }
 
 /// Whether an operator between operands of the line below is next.
-#[tactic(auto, using(crate::proofs::Lines::operator_item))]
+#[tactic(auto, using(crate::proofs::sorts::Lines::operator_item))]
 fn sees_operator_below(cursor: &Cursor<'_>, line: u8) -> bool
     requires { 0 < line }
     ensures { result ≡ passes (one_of (operators line)) (first cursor.now) }
@@ -35,7 +35,7 @@ fn sees_operator_below(cursor: &Cursor<'_>, line: u8) -> bool
 }
 
 /// Whether an operator between operands of the line is next.
-#[tactic(auto, using(crate::proofs::RunTurns::line_above))]
+#[tactic(auto, using(crate::proofs::turns::RunTurns::line_above))]
 pub(crate) fn sees_operator(cursor: &Cursor<'_>, line: u8) -> bool
     requires { line < 255 }
     ensures { result ≡ passes (one_of (operators (suc line))) (first cursor.now) }

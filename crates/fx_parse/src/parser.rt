@@ -6,7 +6,7 @@ ghost use Rattle.fx_ast.specs.Shape.{script_tree};
 ghost use Rattle.fx_ast.specs.Tree.{ScriptTree};
 ghost use Rattle.fx_scan.specs.Tokens.{IsTokenList};
 ghost use Rattle.fx_parse.specs.declared.fault.ParseFault.TheVariants.{Refused};
-ghost use Rattle.fx_parse.specs.Parsed.{IsParsed, IsTreeOf, IsUnparsed, place_of};
+ghost use Rattle.fx_parse.specs.Parsed.{IsParsed, IsTreeOf, IsUnparsed, place_left};
 ghost use Rattle.fx_parse.specs.ReadExprs.{read_expr};
 ghost use Rattle.fx_parse.specs.ReadScripts.{read_script};
 ghost use Rattle.fx_parse.specs.Telling.{Told};
@@ -29,7 +29,7 @@ const LEVELS: u8 = 64;
 /// The place of the next item, or the text's length at the end.
 fn place_left(text: &Text, cursor: &Cursor<'_>) -> Place
     requires { length text.now ≤ 65_536 }
-    ensures { result.at ≡ place_of text.now cursor.now }
+    ensures { result.at ≡ place_left text.now cursor.now }
 {
     match cursor.peek() {
         Some(item) => item.place,

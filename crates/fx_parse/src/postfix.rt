@@ -1,9 +1,9 @@
 //! Postfixes: calls, members and indexes after a primary.
 
 ghost use Rattle.std.specs.Prelude.{◌≡◌, ◌≤◌, cond, false, length, IfOk};
-ghost use Rattle.fx_ast.specs.Shape.{shape};
+ghost use Rattle.fx_ast.specs.Shape.{tree_of};
 ghost use Rattle.fx_parse.specs.Cursor.{Gives};
-ghost use Rattle.fx_parse.specs.Nests.{Nests, tree_of};
+ghost use Rattle.fx_parse.specs.Nests.{Nests, tree_in};
 ghost use Rattle.fx_parse.specs.ReadExprs.{read_called, read_expr, read_level};
 ghost use Rattle.fx_parse.specs.Readings.{Got, Bad, links, mapped};
 ghost use Rattle.fx_base.specs.declared.place.Place.{Place};
@@ -45,7 +45,7 @@ fn shared(text: &Option<Text>) -> Result<Option<Text>, Memory>
 }
 
 /// An index, which is a member where it is by a text without interpolation.
-#[tactic(auto, using(crate::proofs::SuffixTurns::indexed_node))]
+#[tactic(auto, using(crate::proofs::turns::SuffixTurns::indexed_node))]
 fn indexed(
     alloc: Global,
     begin: Place,
@@ -53,7 +53,7 @@ fn indexed(
     place: Place,
     at: Measured,
 ) -> Result<Measured, Memory>
-    ensures { IfOk result (λ m. shape m.tree ≡ indexed begin (shape of.tree) place (shape at.tree)) }
+    ensures { IfOk result (λ m. tree_of m.tree ≡ indexed begin (tree_of of.tree) place (tree_of at.tree)) }
 {
     match shared(&at.plain)? {
         Some(label) => nodes::member(alloc, begin, of, label),
@@ -63,7 +63,7 @@ fn indexed(
 
 /// The operand, where it may end the postfix.
 fn ended(cursor: &Cursor<'_>, operand: Measured, must_call: bool) -> Result<Measured, Stop>
-    ensures { Gives tree_of (cond (may_end must_call (shape operand.tree)) (Got (shape operand.tree) cursor.now) (Bad false cursor.now)) result cursor.now }
+    ensures { Gives tree_in (cond (may_end must_call (tree_of operand.tree)) (Got (tree_of operand.tree) cursor.now) (Bad false cursor.now)) result cursor.now }
 {
     if must_call && !operand.call {
         return Err(Stop::Refused { deep: false });
@@ -72,7 +72,7 @@ fn ended(cursor: &Cursor<'_>, operand: Measured, must_call: bool) -> Result<Meas
 }
 
 impl<F: Fn(Global, &mut Cursor<'_>, u8, Phrase) -> Result<Measured, Stop>> Grammar<F> {
-    #[tactic(auto, using(crate::proofs::ListTurns::mapped_twice), unfolding(crate::specs::ReadRuns::read_args))]
+    #[tactic(auto, using(crate::proofs::turns::ListTurns::mapped_twice), unfolding(crate::specs::ReadRuns::read_args))]
     fn call(
         &self,
         cursor: &mut Cursor<'_>,
@@ -80,21 +80,21 @@ impl<F: Fn(Global, &mut Cursor<'_>, u8, Phrase) -> Result<Measured, Stop>> Gramm
         operand: Measured,
     ) -> Result<Measured, Stop>
         requires nests { Nests self.now.depth (F.pre self.now.read) (F.post self.now.read) }
-        ensures { Gives tree_of (mapped (put begin (shape operand.tree)) (read_args self.now.depth (read_expr self.now.depth) cursor.old)) result cursor.new }
+        ensures { Gives tree_in (mapped (put begin (tree_of operand.tree)) (read_args self.now.depth (read_expr self.now.depth) cursor.old)) result cursor.new }
     {
         cursor.symbol(Symbol::OpenParen)?;
         let args = self.props(cursor, self.depth, Group::Arguments)?;
         Ok(nodes::call(self.alloc, begin, operand, args)?)
     }
 
-    #[tactic(auto, using(crate::proofs::ListTurns::mapped_twice), unfolding(crate::specs::ReadRuns::read_dot))]
+    #[tactic(auto, using(crate::proofs::turns::ListTurns::mapped_twice), unfolding(crate::specs::ReadRuns::read_dot))]
     fn member(
         &self,
         cursor: &mut Cursor<'_>,
         begin: Place,
         operand: Measured,
     ) -> Result<Measured, Stop>
-        ensures { Gives tree_of (mapped (put begin (shape operand.tree)) (read_dot cursor.old)) result cursor.new }
+        ensures { Gives tree_in (mapped (put begin (tree_of operand.tree)) (read_dot cursor.old)) result cursor.new }
     {
         cursor.symbol(Symbol::Dot)?;
         let item = cursor.name()?;
@@ -102,7 +102,7 @@ impl<F: Fn(Global, &mut Cursor<'_>, u8, Phrase) -> Result<Measured, Stop>> Gramm
         Ok(nodes::member(self.alloc, begin, operand, label)?)
     }
 
-    #[tactic(auto, using(crate::proofs::ListTurns::mapped_twice), unfolding(crate::specs::ReadRuns::read_bracket))]
+    #[tactic(auto, using(crate::proofs::turns::ListTurns::mapped_twice), unfolding(crate::specs::ReadRuns::read_bracket))]
     fn bracket(
         &self,
         cursor: &mut Cursor<'_>,
@@ -112,7 +112,7 @@ impl<F: Fn(Global, &mut Cursor<'_>, u8, Phrase) -> Result<Measured, Stop>> Gramm
     ) -> Result<Measured, Stop>
         requires nests { Nests self.now.depth (F.pre self.now.read) (F.post self.now.read) }
         requires within { levels ≤ self.now.depth }
-        ensures { Gives tree_of (mapped (put begin (shape operand.tree)) (read_bracket (read_expr levels) cursor.old)) result cursor.new }
+        ensures { Gives tree_in (mapped (put begin (tree_of operand.tree)) (read_bracket (read_expr levels) cursor.old)) result cursor.new }
     {
         let open = cursor.symbol(Symbol::OpenBracket)?;
         let at = self.inner(cursor, levels)?;
@@ -130,7 +130,7 @@ impl<F: Fn(Global, &mut Cursor<'_>, u8, Phrase) -> Result<Measured, Stop>> Gramm
     ) -> Result<Measured, Stop>
         requires nests { Nests self.now.depth (F.pre self.now.read) (F.post self.now.read) }
         requires within { levels ≤ self.now.depth }
-        ensures { Gives tree_of (mapped (put begin (shape operand.tree)) (read_suffix self.now.depth (read_expr self.now.depth) (read_expr levels) cursor.old)) result cursor.new }
+        ensures { Gives tree_in (mapped (put begin (tree_of operand.tree)) (read_suffix self.now.depth (read_expr self.now.depth) (read_expr levels) cursor.old)) result cursor.new }
     {
         if cursor.sees_symbol(Symbol::OpenParen) {
             return self.call(cursor, begin, operand);
@@ -152,7 +152,7 @@ impl<F: Fn(Global, &mut Cursor<'_>, u8, Phrase) -> Result<Measured, Stop>> Gramm
     ) -> Result<Measured, Stop>
         requires nests { Nests self.now.depth (F.pre self.now.read) (F.post self.now.read) }
         requires within { levels ≤ self.now.depth }
-        ensures { Gives tree_of (links (suffixes must_call begin self.now.depth levels (read_expr self.now.depth) (read_expr levels)) (length cursor.old) (shape operand.tree) cursor.old) result cursor.new }
+        ensures { Gives tree_in (links (suffixes must_call begin self.now.depth levels (read_expr self.now.depth) (read_expr levels)) (length cursor.old) (tree_of operand.tree) cursor.old) result cursor.new }
     {
         for _turn in 0..cursor.count() {
             if !cursor.sees_suffix() {
@@ -166,7 +166,7 @@ impl<F: Fn(Global, &mut Cursor<'_>, u8, Phrase) -> Result<Measured, Stop>> Gramm
         ended(cursor, operand, must_call)
     }
 
-    #[tactic(auto, using(crate::proofs::ListTurns::second_only), unfolding(crate::specs::ReadRuns::read_postfix))]
+    #[tactic(auto, using(crate::proofs::turns::ListTurns::second_only), unfolding(crate::specs::ReadRuns::read_postfix))]
     pub(crate) fn postfix(
         &self,
         cursor: &mut Cursor<'_>,
@@ -175,7 +175,7 @@ impl<F: Fn(Global, &mut Cursor<'_>, u8, Phrase) -> Result<Measured, Stop>> Gramm
     ) -> Result<Measured, Stop>
         requires nests { Nests self.now.depth (F.pre self.now.read) (F.post self.now.read) }
         requires within { levels ≤ self.now.depth }
-        ensures { Gives tree_of (read_postfix must_call self.now.depth levels (read_expr self.now.depth) (read_expr levels) cursor.old) result cursor.new }
+        ensures { Gives tree_in (read_postfix must_call self.now.depth levels (read_expr self.now.depth) (read_expr levels) cursor.old) result cursor.new }
     {
         let begin = cursor.place();
         let operand = self.primary(cursor, levels)?;

@@ -1,9 +1,9 @@
 //! Operators before operands.
 
 ghost use Rattle.std.specs.Prelude.{◌≡◌, ◌<◌};
-ghost use Rattle.fx_ast.specs.Shape.{shape};
+ghost use Rattle.fx_ast.specs.Shape.{tree_of};
 ghost use Rattle.fx_parse.specs.Cursor.{Gives};
-ghost use Rattle.fx_parse.specs.Nests.{Nests, tree_of};
+ghost use Rattle.fx_parse.specs.Nests.{Nests, tree_in};
 ghost use Rattle.fx_parse.specs.ReadExprs.{read_called, read_expr, read_level};
 ghost use Rattle.fx_parse.specs.Readings.{Got, Bad, links, mapped};
 ghost use Rattle.fx_parse.specs.ReadRuns.{read_prefix};
@@ -22,7 +22,7 @@ impl<F: Fn(Global, &mut Cursor<'_>, u8, Phrase) -> Result<Measured, Stop>> Gramm
     pub(crate) fn prefixed(&self, cursor: &mut Cursor<'_>, line: u8) -> Result<Measured, Stop>
         requires nests { Nests self.now.depth (F.pre self.now.read) (F.post self.now.read) }
         requires some { 0 < line }
-        ensures { Gives tree_of (read_prefix self.now.depth line (read_level self.now.depth line) cursor.old) result cursor.new }
+        ensures { Gives tree_in (read_prefix self.now.depth line (read_level self.now.depth line) cursor.old) result cursor.new }
     {
         if self.depth == 0 {
             return Err(Stop::Refused { deep: true });

@@ -2,7 +2,7 @@
 
 ghost use Rattle.std.specs.Prelude.{◌≡◌, ◌≤◌};
 ghost use Rattle.fx_parse.specs.Cursor.{Gives};
-ghost use Rattle.fx_parse.specs.Nests.{Nests, tree_of};
+ghost use Rattle.fx_parse.specs.Nests.{Nests, tree_in};
 ghost use Rattle.fx_parse.specs.ReadExprs.{read_expr};
 ghost use Rattle.fx_parse.specs.ReadPrimary.{read_paren, read_primary, read_properties, read_record};
 ghost use Rattle.fx_parse.specs.Views.{props};
@@ -24,7 +24,7 @@ impl<F: Fn(Global, &mut Cursor<'_>, u8, Phrase) -> Result<Measured, Stop>> Gramm
     pub(crate) fn paren(&self, cursor: &mut Cursor<'_>, levels: u8) -> Result<Measured, Stop>
         requires nests { Nests self.now.depth (F.pre self.now.read) (F.post self.now.read) }
         requires within { levels ≤ self.now.depth }
-        ensures { Gives tree_of (read_paren levels (read_expr levels) cursor.old) result cursor.new }
+        ensures { Gives tree_in (read_paren levels (read_expr levels) cursor.old) result cursor.new }
     {
         if levels == 0 {
             return Err(Stop::Refused { deep: true });
@@ -61,7 +61,7 @@ impl<F: Fn(Global, &mut Cursor<'_>, u8, Phrase) -> Result<Measured, Stop>> Gramm
     fn record(&self, cursor: &mut Cursor<'_>, levels: u8) -> Result<Measured, Stop>
         requires nests { Nests self.now.depth (F.pre self.now.read) (F.post self.now.read) }
         requires within { levels ≤ self.now.depth }
-        ensures { Gives tree_of (read_record levels (read_expr levels) cursor.old) result cursor.new }
+        ensures { Gives tree_in (read_record levels (read_expr levels) cursor.old) result cursor.new }
     {
         let open = cursor.symbol(Symbol::OpenBrace)?;
         let (base, props) = self.properties(cursor, levels)?;
@@ -72,7 +72,7 @@ impl<F: Fn(Global, &mut Cursor<'_>, u8, Phrase) -> Result<Measured, Stop>> Gramm
     pub(crate) fn primary(&self, cursor: &mut Cursor<'_>, levels: u8) -> Result<Measured, Stop>
         requires nests { Nests self.now.depth (F.pre self.now.read) (F.post self.now.read) }
         requires within { levels ≤ self.now.depth }
-        ensures { Gives tree_of (read_primary levels (read_expr levels) cursor.old) result cursor.new }
+        ensures { Gives tree_in (read_primary levels (read_expr levels) cursor.old) result cursor.new }
     {
         if cursor.sees_head() {
             return self.text(cursor, levels);

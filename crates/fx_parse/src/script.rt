@@ -76,7 +76,7 @@ impl<F: Fn(Global, &mut Cursor<'_>, u8, Phrase) -> Result<Measured, Stop>> Gramm
     }
 
     /// Imports, and then statements up to the end.
-    #[tactic(auto, using(crate::proofs::StatementLaws::nothing_found))]
+    #[tactic(auto, using(crate::proofs::turns::StatementLaws::nothing_found))]
     fn lines(&self, cursor: &mut Cursor<'_>, levels: u8) -> Result<List<Statement>, Stop>
         requires nests { Nests self.now.depth (F.pre self.now.read) (F.post self.now.read) }
         requires within { levels ≤ self.now.depth }

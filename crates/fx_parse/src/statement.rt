@@ -41,7 +41,7 @@ fn imported(place: Place, alias: Option<Text>, path: Text) -> Statement
 }
 
 /// Whether a name and `=` are next.
-#[tactic(auto, using(crate::proofs::StatementLaws::assignment_seen))]
+#[tactic(auto, using(crate::proofs::turns::StatementLaws::assignment_seen))]
 fn sees_assignment(cursor: &Cursor<'_>) -> bool
     ensures { result ≡ sees_assignment cursor.now }
 {
@@ -100,7 +100,7 @@ impl<F: Fn(Global, &mut Cursor<'_>, u8, Phrase) -> Result<Measured, Stop>> Gramm
         })
     }
 
-    #[tactic(auto, using(crate::proofs::StatementLaws::statement_kinds))]
+    #[tactic(auto, using(crate::proofs::turns::StatementLaws::statement_kinds))]
     fn statement(&self, cursor: &mut Cursor<'_>, levels: u8) -> Result<Statement, Stop>
         requires nests { Nests self.now.depth (F.pre self.now.read) (F.post self.now.read) }
         requires within { levels ≤ self.now.depth }

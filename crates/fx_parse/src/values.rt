@@ -2,15 +2,15 @@
 
 ghost use Rattle.std.specs.Prelude.{◌≡◌, ◌≤◌, length, map, Some, None, IfOk};
 ghost use Rattle.fx_parse.specs.Cursor.{Gives};
-ghost use Rattle.fx_parse.specs.Nests.{Nests, tree_of};
+ghost use Rattle.fx_parse.specs.Nests.{Nests, tree_in};
 ghost use Rattle.fx_parse.specs.ReadExprs.{read_expr};
-ghost use Rattle.fx_ast.specs.Shape.{shape};
+ghost use Rattle.fx_ast.specs.Shape.{tree_of};
 ghost use Rattle.fx_parse.specs.Closing.{read_prop};
 ghost use Rattle.fx_parse.specs.Readings.{mapped};
 ghost use Rattle.fx_parse.specs.ReadProps.{read_props, read_some_props, read_value};
 ghost use Rattle.fx_parse.specs.Grammar.{properties};
 ghost use Rattle.fx_parse.specs.Views.{a_prop, group, props};
-ghost use Rattle.fx_parse.specs.Ahead.{props_before};
+ghost use Rattle.fx_ast.specs.Lists.{props_before};
 
 use crate::cursor::Cursor;
 use crate::grammar::Grammar;
@@ -31,7 +31,7 @@ impl<F: Fn(Global, &mut Cursor<'_>, u8, Phrase) -> Result<Measured, Stop>> Gramm
     fn value(&self, cursor: &mut Cursor<'_>, levels: u8, label: &Item) -> Result<Measured, Stop>
         requires nests { Nests self.now.depth (F.pre self.now.read) (F.post self.now.read) }
         requires within { levels ≤ self.now.depth }
-        ensures { Gives tree_of (read_value (read_expr levels) label.now cursor.old) result cursor.new }
+        ensures { Gives tree_in (read_value (read_expr levels) label.now cursor.old) result cursor.new }
     {
         if cursor.sees_symbol(Symbol::Colon) {
             cursor.symbol(Symbol::Colon)?;
@@ -95,7 +95,7 @@ impl<F: Fn(Global, &mut Cursor<'_>, u8, Phrase) -> Result<Measured, Stop>> Gramm
     }
 
     /// Labels and values, up to the end of the list.
-    #[tactic(auto, using(crate::proofs::ListTurns::mapped_same))]
+    #[tactic(auto, using(crate::proofs::turns::ListTurns::mapped_same))]
     pub(crate) fn props(
         &self,
         cursor: &mut Cursor<'_>,
@@ -111,7 +111,7 @@ impl<F: Fn(Global, &mut Cursor<'_>, u8, Phrase) -> Result<Measured, Stop>> Gramm
     }
 
     /// At least one label and its value, up to the end of the list.
-    #[tactic(auto, using(crate::proofs::SomeProps::some))]
+    #[tactic(auto, using(crate::proofs::turns::SomeProps::some))]
     pub(crate) fn some_props(&self, cursor: &mut Cursor<'_>, levels: u8) -> Result<PropList, Stop>
         requires nests { Nests self.now.depth (F.pre self.now.read) (F.post self.now.read) }
         requires within { levels ≤ self.now.depth }

@@ -9,15 +9,15 @@ use Rattle.fx_parse.specs.Items.{Items, passes, first, is_name, is_word}
 use Rattle.fx_parse.specs.Grammar.{IsScript, joins}
 use Rattle.fx_ast.specs.Levels.{levels}
 use Rattle.fx_parse.specs.Lexemes.{AllRead}
-use Rattle.fx_parse.specs.Parsed.{IsTreeOf, IsParsed, IsUnparsed, place_of}
+use Rattle.fx_parse.specs.Parsed.{IsTreeOf, IsParsed, IsUnparsed, place_left}
 use Rattle.fx_parse.specs.ReadExprs.{read_expr}
 use Rattle.fx_parse.specs.ReadScripts.{read_statement, read_statements, read_imports, read_script}
 use Rattle.fx_parse.specs.Readings.{Out, Got, Bad, mapped, go_on, both, token}
 use Rattle.fx_parse.specs.Refusal.{IsRefusal}
-use Rattle.fx_parse.proofs.Says.{Says}
-use Rattle.fx_parse.proofs.Knot.{says_expr}
-use Rattle.fx_parse.proofs.Scripts.{says_script}
-use Rattle.fx_parse.proofs.Top.{at_end, Within, refusal, one_tree}
+use Rattle.fx_parse.proofs.phrases.Says.{Says}
+use Rattle.fx_parse.proofs.phrases.Knot.{says_expr}
+use Rattle.fx_parse.proofs.phrases.Scripts.{says_script}
+use Rattle.fx_parse.proofs.outcome.Top.{at_end, Within, refusal, one_tree}
 
 -- ---- a script is read to its end
 
@@ -88,7 +88,7 @@ parsed text tokens items all t r e =
     record { is = record { items = items; read = all; phrase = h.0 }; low = h.1 }
 
 pub unparsed : (text : Bytes) (tokens : List Token) (items : Items) → AllRead text tokens items → (deep : Bool) (rest : Items) → read_script (read_expr 64) items ≡ Bad deep rest
-    → (place : ℕ) → place ≡ place_of text rest → IsUnparsed text tokens place deep
+    → (place : ℕ) → place ≡ place_left text rest → IsUnparsed text tokens place deep
 unparsed text tokens items all deep rest e place at =
     record { items = items; read = all; rest = rest; refusal = refused_is items (read_script (read_expr 64) items) (script_says 64 (omega arith) items) deep rest e; at = at }
 

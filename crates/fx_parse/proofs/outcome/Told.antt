@@ -15,7 +15,7 @@ use Rattle.fx_parse.specs.ReadExprs.{read_expr}
 use Rattle.fx_parse.specs.ReadScripts.{read_script}
 use Rattle.fx_parse.specs.Telling.{Told}
 use Rattle.fx_parse.specs.Readings.{Bad}
-use Rattle.fx_parse.proofs.Parsing.{parsed, unparsed, unparsed_none, one_tree_of}
+use Rattle.fx_parse.proofs.outcome.Parsing.{parsed, unparsed, unparsed_none, one_tree_of}
 
 module _ (text : Bytes) (tokens : List Token) (items : Items) (all : AllRead text tokens items) (one : (others : Items) → AllRead text tokens others → others ≡ items) where
   pub told_ok : (r : Result Script ParseFault) → Told text (read_script (read_expr 64) items) r → IfOk r (λ s. IsParsed text tokens (script_tree s))

@@ -7,7 +7,7 @@ use Rattle.fx_parse.specs.Grammar.{IsScript}
 use Rattle.fx_ast.specs.Levels.{levels}
 use Rattle.fx_parse.specs.Readings.{Out, Got, Bad}
 use Rattle.fx_parse.specs.Refusal.{IsRefusal}
-use Rattle.fx_parse.proofs.Says.{IsRefused, Says}
+use Rattle.fx_parse.proofs.phrases.Says.{IsRefused, Says}
 
 -- nothing may follow a script
 abbrev pub at_end : Option Item → Bool

@@ -10,13 +10,13 @@ use Rattle.fx_parse.specs.Grammar.{IsTok, IsExpr, IsElements, elements_end, elem
 use Rattle.fx_ast.specs.Levels.{height, below, in_trees}
 use Rattle.fx_parse.specs.Readings.{Out, Bad, mapped, both, token}
 use Rattle.fx_parse.specs.ReadPrimary.{starters, begins, read_elements, read_more_elements}
-use Rattle.fx_parse.proofs.Beginnings.{expr_first, expr_some}
-use Rattle.fx_parse.proofs.Says.{Says, Fine, any_stop, says_token}
-use Rattle.fx_parse.proofs.Both.{Pair, OkPair}
-use Rattle.fx_parse.proofs.Far.{says_mapped}
-use Rattle.fx_parse.proofs.Stops.{Low, LowTrees, front_passes}
-use Rattle.fx_parse.proofs.Then.{Low_of, Reads, enders, says_then, says_ended, says_nothing, says_bare}
-use Rattle.fx_parse.proofs.Toks.{sign, may_apart, may_within}
+use Rattle.fx_parse.proofs.phrases.Beginnings.{expr_first, expr_some}
+use Rattle.fx_parse.proofs.phrases.Says.{Says, Fine, any_stop, says_token}
+use Rattle.fx_parse.proofs.phrases.Both.{Pair, OkPair}
+use Rattle.fx_parse.proofs.phrases.Far.{says_mapped}
+use Rattle.fx_parse.proofs.phrases.Stops.{Low, LowTrees, front_passes}
+use Rattle.fx_parse.proofs.phrases.Then.{Low_of, Reads, enders, says_then, says_ended, says_nothing, says_bare}
+use Rattle.fx_parse.proofs.sorts.Toks.{sign, may_apart, may_within}
 
 abbrev closes : Item → Bool
 closes = is_symbol symbol.CloseBracket

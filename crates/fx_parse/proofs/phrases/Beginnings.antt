@@ -7,11 +7,11 @@ use Rattle.fx_parse.specs.declared.item.Item.{Item}
 use Rattle.fx_parse.specs.Items.{Items, Sort, a_head, a_word, a_symbol, literals, one_of, first, start, passes, label, literal, is_head, is_literal, is_symbol, is_word, prefixes, prefix_of}
 use Rattle.fx_parse.specs.Grammar.{IsExpr, by_choice, by_function, by_level, IsFunction, a_function, IsLevel, at_postfix, at_prefix, at_run, links_end, IsPostfix, a_postfix, suffixes_end, IsPrimary, a_literal, a_text, a_paren, an_array, a_record, elements_end, whole_record, props_end}
 use Rattle.fx_parse.specs.ReadPrimary.{starters, begins}
-use Rattle.fx_parse.proofs.Shortest.{zero_expr, zero_level}
-use Rattle.fx_parse.proofs.Stops.{front_passes}
-use Rattle.fx_parse.proofs.Texts.{low_holes}
-use Rattle.fx_parse.proofs.Then.{Begun}
-use Rattle.fx_parse.proofs.Toks.{may_within, in_left, in_right, in_join, sign, a_word_item, a_zero}
+use Rattle.fx_parse.proofs.phrases.Shortest.{zero_expr, zero_level}
+use Rattle.fx_parse.proofs.phrases.Stops.{front_passes}
+use Rattle.fx_parse.proofs.phrases.Texts.{low_holes}
+use Rattle.fx_parse.proofs.phrases.Then.{Begun}
+use Rattle.fx_parse.proofs.sorts.Toks.{may_within, in_left, in_right, in_join, sign, a_word_item, a_zero}
 
 -- ---- what a phrase begins with
 

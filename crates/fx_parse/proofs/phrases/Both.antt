@@ -3,7 +3,7 @@ use Rattle.std.proofs.Common.{◌≡◌, Bool, true, ◌∷◌, ◌++◌, Option
 use Rattle.fx_parse.specs.declared.item.Item.{Item}
 use Rattle.fx_parse.specs.Items.{Items, first}
 use Rattle.fx_parse.specs.Readings.{Out, Got, Bad, mapped, go_on}
-use Rattle.fx_parse.proofs.Says.{IsRead, Says, first_join, cancel}
+use Rattle.fx_parse.proofs.phrases.Says.{IsRead, Says, first_join, cancel}
 
 abbrev pub Pair : {A B : Type 0} → (A → Items → Type 0) → (A → B → Items → Type 0) → A × B → Items → Type 0
 Pair N M p w = (u : Items) × (v : Items) × N p.0 u × M p.0 p.1 v × (w ≡ u ++ v)

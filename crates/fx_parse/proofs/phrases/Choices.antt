@@ -11,15 +11,15 @@ use Rattle.fx_ast.specs.Levels.{height}
 use Rattle.fx_parse.specs.Readings.{Out, Bad, mapped, both, token}
 use Rattle.fx_parse.specs.ReadPrimary.{starters}
 use Rattle.fx_parse.specs.ReadRuns.{read_choice}
-use Rattle.fx_parse.proofs.Says.{Says, Fine, any_stop, says_token}
-use Rattle.fx_parse.proofs.Both.{Pair, OkPair, says_both}
-use Rattle.fx_parse.proofs.Far.{says_mapped}
-use Rattle.fx_parse.proofs.Stops.{Low, forbidden, stops, may_follow, front_passes}
-use Rattle.fx_parse.proofs.Toks.{may_apart, a_word_item, a_zero}
-use Rattle.fx_parse.proofs.Shortest.{zero_expr, zero_low}
-use Rattle.fx_parse.proofs.Beginnings.{level_first, function_first, choice_begun}
-use Rattle.fx_parse.proofs.Suffixes.{tall}
-use Rattle.fx_parse.proofs.Then.{says_deep}
+use Rattle.fx_parse.proofs.phrases.Says.{Says, Fine, any_stop, says_token}
+use Rattle.fx_parse.proofs.phrases.Both.{Pair, OkPair, says_both}
+use Rattle.fx_parse.proofs.phrases.Far.{says_mapped}
+use Rattle.fx_parse.proofs.phrases.Stops.{Low, forbidden, stops, may_follow, front_passes}
+use Rattle.fx_parse.proofs.sorts.Toks.{may_apart, a_word_item, a_zero}
+use Rattle.fx_parse.proofs.phrases.Shortest.{zero_expr, zero_low}
+use Rattle.fx_parse.proofs.phrases.Beginnings.{level_first, function_first, choice_begun}
+use Rattle.fx_parse.proofs.phrases.Suffixes.{tall}
+use Rattle.fx_parse.proofs.phrases.Then.{says_deep}
 
 -- the parts after each word
 abbrev Else : Tree → Items → Type 0

@@ -3,7 +3,7 @@ use Rattle.std.proofs.Common.{◌≡◌, ℕ, suc, ◌+◌, ◌≤◌, Bool, tru
 use Rattle.fx_parse.specs.declared.item.Item.{Item}
 use Rattle.fx_parse.specs.Items.{Items, first}
 use Rattle.fx_parse.specs.Readings.{Out, Got, Bad, mapped}
-use Rattle.fx_parse.proofs.Says.{Says, first_join, front_join}
+use Rattle.fx_parse.proofs.phrases.Says.{Says, first_join, front_join}
 
 abbrev pub rest_of : {A : Type 0} → Out A → Items
 rest_of (Got t r) = r

@@ -11,14 +11,14 @@ use Rattle.fx_ast.specs.Levels.{height, in_params, in_default, in_props}
 use Rattle.fx_parse.specs.Readings.{Out, mapped, both, token}
 use Rattle.fx_parse.specs.ReadPrimary.{starters, begins}
 use Rattle.fx_parse.specs.ReadFunctions.{read_default, read_more_params, read_params, read_block, read_body, read_function}
-use Rattle.fx_parse.proofs.Beginnings.{expr_first}
-use Rattle.fx_parse.proofs.Both.{Pair, OkPair, says_both, says_same}
-use Rattle.fx_parse.proofs.Far.{says_mapped, says_placed}
-use Rattle.fx_parse.proofs.Says.{Says, Fine, any_stop, says_token}
-use Rattle.fx_parse.proofs.Shortest.{zero_expr, zero_low}
-use Rattle.fx_parse.proofs.Stops.{Low, LowParams, LowDefault, forbidden, without, stops, may_follow, front_passes, not_longer}
-use Rattle.fx_parse.proofs.Then.{Low_of, Reads, enders, any_of, says_then, says_ended, says_nothing}
-use Rattle.fx_parse.proofs.Toks.{sign, a_word_item, may_apart, may_within, not_within, a_zero, some_name}
+use Rattle.fx_parse.proofs.phrases.Beginnings.{expr_first}
+use Rattle.fx_parse.proofs.phrases.Both.{Pair, OkPair, says_both, says_same}
+use Rattle.fx_parse.proofs.phrases.Far.{says_mapped, says_placed}
+use Rattle.fx_parse.proofs.phrases.Says.{Says, Fine, any_stop, says_token}
+use Rattle.fx_parse.proofs.phrases.Shortest.{zero_expr, zero_low}
+use Rattle.fx_parse.proofs.phrases.Stops.{Low, LowParams, LowDefault, forbidden, without, stops, may_follow, front_passes, not_longer}
+use Rattle.fx_parse.proofs.phrases.Then.{Low_of, Reads, enders, any_of, says_then, says_ended, says_nothing}
+use Rattle.fx_parse.proofs.sorts.Toks.{sign, a_word_item, may_apart, may_within, not_within, a_zero, some_name}
 
 -- ---- tokens
 

@@ -4,13 +4,13 @@ use Rattle.fx_parse.specs.Items.{Items}
 use Rattle.fx_parse.specs.Grammar.{IsExpr, IsLevel, IsPostfix}
 use Rattle.fx_parse.specs.ReadRuns.{read_layer}
 use Rattle.fx_parse.specs.ReadExprs.{read_expr, read_level, read_called}
-use Rattle.fx_parse.proofs.Says.{Says}
-use Rattle.fx_parse.proofs.Stops.{Low, stops}
-use Rattle.fx_parse.proofs.Suffixes.{reserve}
-use Rattle.fx_parse.proofs.Postfixes.{says_postfix}
-use Rattle.fx_parse.proofs.Primaries.{says_primary}
-use Rattle.fx_parse.proofs.Layers.{says_layer}
-use Rattle.fx_parse.proofs.Wholes.{whole_says}
+use Rattle.fx_parse.proofs.phrases.Says.{Says}
+use Rattle.fx_parse.proofs.phrases.Stops.{Low, stops}
+use Rattle.fx_parse.proofs.phrases.Suffixes.{reserve}
+use Rattle.fx_parse.proofs.phrases.Postfixes.{says_postfix}
+use Rattle.fx_parse.proofs.phrases.Primaries.{says_primary}
+use Rattle.fx_parse.proofs.phrases.Layers.{says_layer}
+use Rattle.fx_parse.proofs.phrases.Wholes.{whole_says}
 
 no_reserve : (k : ℕ) → k + reserve (not false) ≡ k
 no_reserve k = omega arith

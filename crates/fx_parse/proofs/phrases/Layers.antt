@@ -9,16 +9,16 @@ use Rattle.fx_ast.specs.Levels.{height}
 use Rattle.fx_parse.specs.Readings.{Out, Bad, mapped, both, token}
 use Rattle.fx_parse.specs.ReadPrimary.{starters}
 use Rattle.fx_parse.specs.ReadRuns.{need, read_postfix, read_prefix, read_layer}
-use Rattle.fx_parse.proofs.Says.{Says, Fine, any_stop, says_token}
-use Rattle.fx_parse.proofs.Both.{Pair, OkPair, says_both, says_same}
-use Rattle.fx_parse.proofs.Far.{says_mapped}
-use Rattle.fx_parse.proofs.Stops.{Low, stops}
-use Rattle.fx_parse.proofs.Toks.{disjoint, may_apart, a_zero}
-use Rattle.fx_parse.proofs.Shortest.{zero_level, zero_low}
-use Rattle.fx_parse.proofs.Beginnings.{front_part, level_first, prefix_begun}
-use Rattle.fx_parse.proofs.Suffixes.{tall}
-use Rattle.fx_parse.proofs.Then.{says_deep}
-use Rattle.fx_parse.proofs.Runs.{stops_zero, says_run}
+use Rattle.fx_parse.proofs.phrases.Says.{Says, Fine, any_stop, says_token}
+use Rattle.fx_parse.proofs.phrases.Both.{Pair, OkPair, says_both, says_same}
+use Rattle.fx_parse.proofs.phrases.Far.{says_mapped}
+use Rattle.fx_parse.proofs.phrases.Stops.{Low, stops}
+use Rattle.fx_parse.proofs.sorts.Toks.{disjoint, may_apart, a_zero}
+use Rattle.fx_parse.proofs.phrases.Shortest.{zero_level, zero_low}
+use Rattle.fx_parse.proofs.phrases.Beginnings.{front_part, level_first, prefix_begun}
+use Rattle.fx_parse.proofs.phrases.Suffixes.{tall}
+use Rattle.fx_parse.proofs.phrases.Then.{says_deep}
+use Rattle.fx_parse.proofs.phrases.Runs.{stops_zero, says_run}
 
 prefixes_apart : (m : ℕ) → disjoint (prefixes (suc m)) (starters m) ≡ true
 prefixes_apart zero = refl

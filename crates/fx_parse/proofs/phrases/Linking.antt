@@ -3,9 +3,9 @@ use Rattle.std.proofs.Common.{◌≡◌, ℕ, zero, suc, ◌+◌, ◌≤◌, Boo
 use Rattle.fx_parse.specs.declared.item.Item.{Item}
 use Rattle.fx_parse.specs.Items.{Items, first, passes}
 use Rattle.fx_parse.specs.Readings.{Got, Bad, mapped, both, Chaining, finish, links}
-use Rattle.fx_parse.proofs.Says.{Says}
-use Rattle.fx_parse.proofs.Both.{Pair, OkPair, says_both}
-use Rattle.fx_parse.proofs.Far.{says_mapped, used_by, Kept, says_kept}
+use Rattle.fx_parse.proofs.phrases.Says.{Says}
+use Rattle.fx_parse.proofs.phrases.Both.{Pair, OkPair, says_both}
+use Rattle.fx_parse.proofs.phrases.Far.{says_mapped, used_by, Kept, says_kept}
 
 -- what is a link (L), what links make of a state (R), and when they fit
 pub record IsLinking {S B C : Type 0} (K : Chaining S B C) (L : B → Items → Type 0) (R : S → C → Items → Type 0) (okS : S → Type 0) (okL : B → Type 0) (okR : S → C → Type 0) (stopL stop : Option Item → Bool) : Type 0 where

@@ -10,14 +10,14 @@ use Rattle.fx_ast.specs.Levels.{height}
 use Rattle.fx_parse.specs.Readings.{Out, both, links}
 use Rattle.fx_parse.specs.ReadPrimary.{read_primary, starters}
 use Rattle.fx_parse.specs.ReadRuns.{read_postfix, suffixes}
-use Rattle.fx_parse.proofs.Says.{Says, any_stop}
-use Rattle.fx_parse.proofs.Both.{Pair, OkPair, says_both}
-use Rattle.fx_parse.proofs.Far.{says_placed}
-use Rattle.fx_parse.proofs.Stops.{Low, stops}
-use Rattle.fx_parse.proofs.Toks.{sign, a_zero}
-use Rattle.fx_parse.proofs.Shortest.{zero_primary, zero_postfix}
-use Rattle.fx_parse.proofs.Beginnings.{front_part, primary_first, start_is}
-use Rattle.fx_parse.proofs.Suffixes.{reserve, grows, no_args, call_ends, some_rest, low_rest, not_call, says_suffixes}
+use Rattle.fx_parse.proofs.phrases.Says.{Says, any_stop}
+use Rattle.fx_parse.proofs.phrases.Both.{Pair, OkPair, says_both}
+use Rattle.fx_parse.proofs.phrases.Far.{says_placed}
+use Rattle.fx_parse.proofs.phrases.Stops.{Low, stops}
+use Rattle.fx_parse.proofs.sorts.Toks.{sign, a_zero}
+use Rattle.fx_parse.proofs.phrases.Shortest.{zero_primary, zero_postfix}
+use Rattle.fx_parse.proofs.phrases.Beginnings.{front_part, primary_first, start_is}
+use Rattle.fx_parse.proofs.phrases.Suffixes.{reserve, grows, no_args, call_ends, some_rest, low_rest, not_call, says_suffixes}
 
 -- a primary is no call
 pub primary_no_call : (t : Tree) (u : Items) → IsPrimary t u → is_call t ≡ false

@@ -11,17 +11,17 @@ use Rattle.fx_parse.specs.Grammar.{IsTok, IsExpr, IsPrimary, a_literal, a_text, 
 use Rattle.fx_ast.specs.Levels.{height, below, in_parts, in_trees, in_props}
 use Rattle.fx_parse.specs.Readings.{Out, mapped, both, token}
 use Rattle.fx_parse.specs.ReadPrimary.{read_holes, read_text, read_paren, read_elements, read_array, read_properties, read_record, read_primary}
-use Rattle.fx_parse.proofs.Arrays.{low_elements, says_elements}
-use Rattle.fx_parse.proofs.Beginnings.{text_begun, paren_begun}
-use Rattle.fx_parse.proofs.Both.{Pair, OkPair}
-use Rattle.fx_parse.proofs.Far.{says_mapped}
-use Rattle.fx_parse.proofs.Records.{Filled, IsFilled, LowFilled, low_filled, says_properties}
-use Rattle.fx_parse.proofs.Says.{Says, Fine, any_stop, says_token}
-use Rattle.fx_parse.proofs.Shortest.{zero_expr, zero_low, zero_primary}
-use Rattle.fx_parse.proofs.Stops.{Low, LowParts, LowTrees, front_passes}
-use Rattle.fx_parse.proofs.Texts.{low_holes, says_holes}
-use Rattle.fx_parse.proofs.Then.{Low_of, Reads, enders, says_then, says_ended, says_deep}
-use Rattle.fx_parse.proofs.Toks.{item, sign, may_apart, may_within, a_zero}
+use Rattle.fx_parse.proofs.phrases.Arrays.{low_elements, says_elements}
+use Rattle.fx_parse.proofs.phrases.Beginnings.{text_begun, paren_begun}
+use Rattle.fx_parse.proofs.phrases.Both.{Pair, OkPair}
+use Rattle.fx_parse.proofs.phrases.Far.{says_mapped}
+use Rattle.fx_parse.proofs.phrases.Records.{Filled, IsFilled, LowFilled, low_filled, says_properties}
+use Rattle.fx_parse.proofs.phrases.Says.{Says, Fine, any_stop, says_token}
+use Rattle.fx_parse.proofs.phrases.Shortest.{zero_expr, zero_low, zero_primary}
+use Rattle.fx_parse.proofs.phrases.Stops.{Low, LowParts, LowTrees, front_passes}
+use Rattle.fx_parse.proofs.phrases.Texts.{low_holes, says_holes}
+use Rattle.fx_parse.proofs.phrases.Then.{Low_of, Reads, enders, says_then, says_ended, says_deep}
+use Rattle.fx_parse.proofs.sorts.Toks.{item, sign, may_apart, may_within, a_zero}
 
 abbrev opens_paren : Item → Bool
 opens_paren = is_symbol symbol.OpenParen

@@ -9,12 +9,12 @@ use Rattle.fx_parse.specs.Grammar.{IsTok, IsExpr, IsProps, props_end, props_some
 use Rattle.fx_ast.specs.Levels.{height, below, in_props}
 use Rattle.fx_parse.specs.Readings.{Out, Got, Bad, mapped, both, token}
 use Rattle.fx_parse.specs.ReadProps.{read_value, read_more_props, read_some_props, read_props}
-use Rattle.fx_parse.proofs.Says.{Says, Fine, any_stop, says_token}
-use Rattle.fx_parse.proofs.Both.{Pair, OkPair, says_both, says_same}
-use Rattle.fx_parse.proofs.Far.{says_mapped}
-use Rattle.fx_parse.proofs.Stops.{Low, LowProps, forbidden, without, stops, may_follow, front_passes, tok_shorter, not_longer, says_within}
-use Rattle.fx_parse.proofs.Toks.{may_apart, may_within, not_within, sign, a_zero, some_name}
-use Rattle.fx_parse.proofs.Shortest.{zero_expr, zero_low}
+use Rattle.fx_parse.proofs.phrases.Says.{Says, Fine, any_stop, says_token}
+use Rattle.fx_parse.proofs.phrases.Both.{Pair, OkPair, says_both, says_same}
+use Rattle.fx_parse.proofs.phrases.Far.{says_mapped}
+use Rattle.fx_parse.proofs.phrases.Stops.{Low, LowProps, forbidden, without, stops, may_follow, front_passes, tok_shorter, not_longer, says_within}
+use Rattle.fx_parse.proofs.sorts.Toks.{may_apart, may_within, not_within, sign, a_zero, some_name}
+use Rattle.fx_parse.proofs.phrases.Shortest.{zero_expr, zero_low}
 
 -- ---- what the sorts of labels and closers are
 

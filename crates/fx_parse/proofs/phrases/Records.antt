@@ -11,14 +11,14 @@ use Rattle.fx_ast.specs.Levels.{height, in_props}
 use Rattle.fx_parse.specs.Readings.{Out, Bad, mapped, both, token}
 use Rattle.fx_parse.specs.ReadProps.{read_props, read_some_props}
 use Rattle.fx_parse.specs.ReadPrimary.{sees_with, read_properties}
-use Rattle.fx_parse.proofs.Says.{Says, Fine, any_stop}
-use Rattle.fx_parse.proofs.Both.{Pair, OkPair}
-use Rattle.fx_parse.proofs.Far.{says_mapped, says_far, used_by}
-use Rattle.fx_parse.proofs.Props.{says_props, says_some_props}
-use Rattle.fx_parse.proofs.Shortest.{zero_expr, zero_low}
-use Rattle.fx_parse.proofs.Stops.{LowProps, front_passes}
-use Rattle.fx_parse.proofs.Then.{Low_of, Reads, says_then, says_deep}
-use Rattle.fx_parse.proofs.Toks.{item, sign, not_of, may_apart, may_within, called_name, a_zero, some_name}
+use Rattle.fx_parse.proofs.phrases.Says.{Says, Fine, any_stop}
+use Rattle.fx_parse.proofs.phrases.Both.{Pair, OkPair}
+use Rattle.fx_parse.proofs.phrases.Far.{says_mapped, says_far, used_by}
+use Rattle.fx_parse.proofs.phrases.Props.{says_props, says_some_props}
+use Rattle.fx_parse.proofs.phrases.Shortest.{zero_expr, zero_low}
+use Rattle.fx_parse.proofs.phrases.Stops.{LowProps, front_passes}
+use Rattle.fx_parse.proofs.phrases.Then.{Low_of, Reads, says_then, says_deep}
+use Rattle.fx_parse.proofs.sorts.Toks.{item, sign, not_of, may_apart, may_within, called_name, a_zero, some_name}
 
 -- what is changed, and the properties
 abbrev pub Filled : Type 0

@@ -10,16 +10,16 @@ use Rattle.fx_ast.specs.Levels.{height, below, in_links, in_trees, in_props}
 use Rattle.fx_parse.specs.Readings.{Out, both, token, links}
 use Rattle.fx_parse.specs.ReadPrimary.{starters}
 use Rattle.fx_parse.specs.ReadRuns.{need, has_room, read_link, operator_run, read_run}
-use Rattle.fx_parse.proofs.Says.{Says, Fine, any_stop, says_token}
-use Rattle.fx_parse.proofs.Both.{Pair, OkPair, says_both}
-use Rattle.fx_parse.proofs.Far.{says_mapped, says_placed}
-use Rattle.fx_parse.proofs.Linking.{IsLinking, says_links}
-use Rattle.fx_parse.proofs.Stops.{Low, forbidden, without, stops, may_follow, front_passes}
-use Rattle.fx_parse.proofs.Toks.{disjoint, in_left, in_right, a_zero}
-use Rattle.fx_parse.proofs.Shortest.{zero_level, zero_low}
-use Rattle.fx_parse.proofs.Beginnings.{front_part, level_first, start_is}
-use Rattle.fx_parse.proofs.Suffixes.{tall}
-use Rattle.fx_parse.proofs.Postfixes.{zero_call, zero_call_items, zero_called, zero_call_height}
+use Rattle.fx_parse.proofs.phrases.Says.{Says, Fine, any_stop, says_token}
+use Rattle.fx_parse.proofs.phrases.Both.{Pair, OkPair, says_both}
+use Rattle.fx_parse.proofs.phrases.Far.{says_mapped, says_placed}
+use Rattle.fx_parse.proofs.phrases.Linking.{IsLinking, says_links}
+use Rattle.fx_parse.proofs.phrases.Stops.{Low, forbidden, without, stops, may_follow, front_passes}
+use Rattle.fx_parse.proofs.sorts.Toks.{disjoint, in_left, in_right, a_zero}
+use Rattle.fx_parse.proofs.phrases.Shortest.{zero_level, zero_low}
+use Rattle.fx_parse.proofs.phrases.Beginnings.{front_part, level_first, start_is}
+use Rattle.fx_parse.proofs.phrases.Suffixes.{tall}
+use Rattle.fx_parse.proofs.phrases.Postfixes.{zero_call, zero_call_items, zero_called, zero_call_height}
 
 -- ---- heights
 

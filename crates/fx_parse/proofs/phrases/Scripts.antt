@@ -10,14 +10,14 @@ use Rattle.fx_parse.specs.Grammar.{IsTok, IsStatement, IsStatements, statements_
 use Rattle.fx_ast.specs.Levels.{in_form, in_statements}
 use Rattle.fx_parse.specs.Readings.{Out, Got, Bad, mapped, both, token}
 use Rattle.fx_parse.specs.ReadScripts.{read_statement, read_statements, read_import, read_imports, read_script}
-use Rattle.fx_parse.proofs.Both.{Pair, OkPair, says_both, says_same}
-use Rattle.fx_parse.proofs.Far.{says_mapped, says_placed}
-use Rattle.fx_parse.proofs.Says.{Says, Fine, any_stop, says_token}
-use Rattle.fx_parse.proofs.Statements.{stop, statement_starters, statement_first, fresh_follows, says_statement}
-use Rattle.fx_parse.proofs.Stops.{without, may_follow, front_passes, says_within}
-use Rattle.fx_parse.proofs.Then.{Low_of, Reads, any_of, says_then}
-use Rattle.fx_parse.proofs.Toks.{item, a_word_item, some_name, may_apart}
-use Rattle.fx_parse.proofs.Top.{at_end, Within}
+use Rattle.fx_parse.proofs.phrases.Both.{Pair, OkPair, says_both, says_same}
+use Rattle.fx_parse.proofs.phrases.Far.{says_mapped, says_placed}
+use Rattle.fx_parse.proofs.phrases.Says.{Says, Fine, any_stop, says_token}
+use Rattle.fx_parse.proofs.phrases.Statements.{stop, statement_starters, statement_first, fresh_follows, says_statement}
+use Rattle.fx_parse.proofs.phrases.Stops.{without, may_follow, front_passes, says_within}
+use Rattle.fx_parse.proofs.phrases.Then.{Low_of, Reads, any_of, says_then}
+use Rattle.fx_parse.proofs.sorts.Toks.{item, a_word_item, some_name, may_apart}
+use Rattle.fx_parse.proofs.outcome.Top.{at_end, Within}
 
 -- ---- lists of statements
 

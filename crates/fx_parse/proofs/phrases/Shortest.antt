@@ -3,8 +3,8 @@ use Rattle.std.proofs.Common.{ℕ, zero, suc, ◌≤◌, [], ◌∷◌, false, r
 use Rattle.fx_parse.specs.Items.{one_of, literal, literal_shape}
 use Rattle.fx_parse.specs.Grammar.{IsExpr, by_level, IsLevel, at_postfix, at_run, links_end, IsPostfix, a_postfix, suffixes_end, IsPrimary, a_literal}
 use Rattle.fx_ast.specs.Levels.{height}
-use Rattle.fx_parse.proofs.Stops.{Low}
-use Rattle.fx_parse.proofs.Toks.{a_zero}
+use Rattle.fx_parse.proofs.phrases.Stops.{Low}
+use Rattle.fx_parse.proofs.sorts.Toks.{a_zero}
 
 pub zero_primary : IsPrimary (literal a_zero) (a_zero ∷ [])
 unfolding one_of

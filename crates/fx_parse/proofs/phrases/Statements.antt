@@ -12,17 +12,17 @@ use Rattle.fx_ast.specs.Levels.{in_form}
 use Rattle.fx_parse.specs.Readings.{Out, mapped, both, token}
 use Rattle.fx_parse.specs.ReadPrimary.{starters, begins}
 use Rattle.fx_parse.specs.ReadScripts.{sees_assignment, read_statement}
-use Rattle.fx_parse.proofs.Beginnings.{expr_first}
-use Rattle.fx_parse.proofs.Both.{Pair, OkPair, says_same}
-use Rattle.fx_parse.proofs.Far.{Used, says_far, says_mapped, says_placed, says_kept, Kept, used_by}
-use Rattle.fx_parse.proofs.Primaries.{literal_low}
-use Rattle.fx_parse.proofs.Says.{Says, Fine}
-use Rattle.fx_parse.proofs.Shortest.{zero_expr, zero_low}
-use Rattle.fx_parse.proofs.Sight.{at, at_front, expr_name, shutters, second_of, assigns}
-use Rattle.fx_parse.proofs.Stops.{Low, forbidden, without, stops, may_follow, front_passes}
-use Rattle.fx_parse.proofs.Then.{Low_of, Reads, says_then}
-use Rattle.fx_parse.proofs.Toks.{item, sign, a_word_item, a_zero, some_name, may_apart, may_within, not_within, within, in_join}
-use Rattle.fx_parse.proofs.Wholes.{level_of, name_literal}
+use Rattle.fx_parse.proofs.phrases.Beginnings.{expr_first}
+use Rattle.fx_parse.proofs.phrases.Both.{Pair, OkPair, says_same}
+use Rattle.fx_parse.proofs.phrases.Far.{Used, says_far, says_mapped, says_placed, says_kept, Kept, used_by}
+use Rattle.fx_parse.proofs.phrases.Primaries.{literal_low}
+use Rattle.fx_parse.proofs.phrases.Says.{Says, Fine}
+use Rattle.fx_parse.proofs.phrases.Shortest.{zero_expr, zero_low}
+use Rattle.fx_parse.proofs.sorts.Sight.{at, at_front, expr_name, shutters, second_of, assigns}
+use Rattle.fx_parse.proofs.phrases.Stops.{Low, forbidden, without, stops, may_follow, front_passes}
+use Rattle.fx_parse.proofs.phrases.Then.{Low_of, Reads, says_then}
+use Rattle.fx_parse.proofs.sorts.Toks.{item, sign, a_word_item, a_zero, some_name, may_apart, may_within, not_within, within, in_join}
+use Rattle.fx_parse.proofs.phrases.Wholes.{level_of, name_literal}
 
 -- ---- tokens
 

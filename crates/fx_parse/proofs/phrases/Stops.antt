@@ -9,9 +9,9 @@ use Rattle.fx_parse.specs.Grammar.{IsTok}
 use Rattle.fx_ast.specs.Levels.{height, in_props, in_trees, in_parts, in_params, in_default}
 use Rattle.fx_parse.specs.Readings.{Out, Got, Bad, mapped}
 use Rattle.fx_parse.specs.ReadRuns.{suffix_starters}
-use Rattle.fx_parse.proofs.Says.{Says}
-use Rattle.fx_parse.proofs.Far.{says_mapped}
-use Rattle.fx_parse.proofs.Toks.{disjoint, may_not}
+use Rattle.fx_parse.proofs.phrases.Says.{Says}
+use Rattle.fx_parse.proofs.phrases.Far.{says_mapped}
+use Rattle.fx_parse.proofs.sorts.Toks.{disjoint, may_not}
 
 abbrev pub Low : ℕ → Tree → Type 0
 Low k t = height t ≤ k

@@ -11,14 +11,14 @@ use Rattle.fx_ast.specs.Levels.{height, in_props}
 use Rattle.fx_parse.specs.Readings.{Out, both, token, links}
 use Rattle.fx_parse.specs.ReadProps.{read_props}
 use Rattle.fx_parse.specs.ReadRuns.{read_args, read_dot, read_bracket, read_suffix, suffix_starters, suffixes}
-use Rattle.fx_parse.proofs.Says.{Says, Fine, any_stop, says_token}
-use Rattle.fx_parse.proofs.Both.{Pair, OkPair, says_both}
-use Rattle.fx_parse.proofs.Far.{says_mapped}
-use Rattle.fx_parse.proofs.Linking.{IsLinking, says_links}
-use Rattle.fx_parse.proofs.Stops.{Low, LowProps, forbidden, stops, may_follow, front_is, front_passes}
-use Rattle.fx_parse.proofs.Toks.{may_apart, may_within, not_within, in_join, not_of, sign, a_zero, some_name}
-use Rattle.fx_parse.proofs.Shortest.{zero_expr, zero_low}
-use Rattle.fx_parse.proofs.Props.{says_props}
+use Rattle.fx_parse.proofs.phrases.Says.{Says, Fine, any_stop, says_token}
+use Rattle.fx_parse.proofs.phrases.Both.{Pair, OkPair, says_both}
+use Rattle.fx_parse.proofs.phrases.Far.{says_mapped}
+use Rattle.fx_parse.proofs.phrases.Linking.{IsLinking, says_links}
+use Rattle.fx_parse.proofs.phrases.Stops.{Low, LowProps, forbidden, stops, may_follow, front_is, front_passes}
+use Rattle.fx_parse.proofs.sorts.Toks.{may_apart, may_within, not_within, in_join, not_of, sign, a_zero, some_name}
+use Rattle.fx_parse.proofs.phrases.Shortest.{zero_expr, zero_low}
+use Rattle.fx_parse.proofs.phrases.Props.{says_props}
 
 -- ---- heights
 

@@ -9,13 +9,13 @@ use Rattle.fx_parse.specs.Grammar.{IsTok, IsExpr, IsHoles, holes_end, holes_next
 use Rattle.fx_ast.specs.Levels.{height, in_parts}
 use Rattle.fx_parse.specs.Readings.{Out, mapped, both, token}
 use Rattle.fx_parse.specs.ReadPrimary.{read_holes, read_more_holes}
-use Rattle.fx_parse.proofs.Says.{Says, Fine, any_stop, says_token}
-use Rattle.fx_parse.proofs.Both.{Pair, OkPair}
-use Rattle.fx_parse.proofs.Far.{says_mapped}
-use Rattle.fx_parse.proofs.Shortest.{zero_expr, zero_low}
-use Rattle.fx_parse.proofs.Stops.{Low, LowParts, front_passes}
-use Rattle.fx_parse.proofs.Then.{Low_of, Reads, enders, says_then, says_ended, says_nothing}
-use Rattle.fx_parse.proofs.Toks.{item, may_apart, may_within, a_zero}
+use Rattle.fx_parse.proofs.phrases.Says.{Says, Fine, any_stop, says_token}
+use Rattle.fx_parse.proofs.phrases.Both.{Pair, OkPair}
+use Rattle.fx_parse.proofs.phrases.Far.{says_mapped}
+use Rattle.fx_parse.proofs.phrases.Shortest.{zero_expr, zero_low}
+use Rattle.fx_parse.proofs.phrases.Stops.{Low, LowParts, front_passes}
+use Rattle.fx_parse.proofs.phrases.Then.{Low_of, Reads, enders, says_then, says_ended, says_nothing}
+use Rattle.fx_parse.proofs.sorts.Toks.{item, may_apart, may_within, a_zero}
 
 -- after the expression of a hole: the text's last piece, or a piece and another hole
 data IsAfterHole : Parts → Items → Type 0 where

@@ -7,9 +7,9 @@ use Rattle.fx_parse.specs.declared.item.Item.{Item}
 use Rattle.fx_parse.specs.Items.{Items, Sort, a_name, a_mid, a_tail, a_word, a_symbol, first, passes, one_of}
 use Rattle.fx_parse.specs.Grammar.{IsTok, IsExpr}
 use Rattle.fx_parse.specs.Readings.{Out, Bad, both, token}
-use Rattle.fx_parse.proofs.Says.{Says, Fine, any_stop, says_token}
-use Rattle.fx_parse.proofs.Both.{Pair, OkPair, says_both}
-use Rattle.fx_parse.proofs.Stops.{Low, forbidden, stops, may_follow, tok_shorter, not_longer}
+use Rattle.fx_parse.proofs.phrases.Says.{Says, Fine, any_stop, says_token}
+use Rattle.fx_parse.proofs.phrases.Both.{Pair, OkPair, says_both}
+use Rattle.fx_parse.proofs.phrases.Stops.{Low, forbidden, stops, may_follow, tok_shorter, not_longer}
 
 -- some phrase, and some phrase that fits
 abbrev pub Some_of : {B : Type 0} → (B → Items → Type 0) → Type 0

@@ -11,19 +11,19 @@ use Rattle.fx_ast.specs.Levels.{height}
 use Rattle.fx_parse.specs.Readings.{Out, Got, Bad, mapped}
 use Rattle.fx_parse.specs.ReadFunctions.{sees_function, read_function}
 use Rattle.fx_parse.specs.ReadExprs.{read_whole}
-use Rattle.fx_parse.proofs.Beginnings.{paren_begun}
-use Rattle.fx_parse.proofs.Choices.{says_choice}
-use Rattle.fx_parse.proofs.Far.{Used, says_far, used_by, used_none}
-use Rattle.fx_parse.proofs.Functions.{says_function}
-use Rattle.fx_parse.proofs.Primaries.{literal_low}
-use Rattle.fx_parse.proofs.Runs.{run_height}
-use Rattle.fx_parse.proofs.Says.{Says}
-use Rattle.fx_parse.proofs.Shortest.{zero_expr}
-use Rattle.fx_parse.proofs.Sight.{at, at_front, opens, closes, parts_from, assigns, leads, Seen, seen_into, seen_back, function_seen, level_shut, no_parens}
-use Rattle.fx_parse.proofs.Stops.{Low, forbidden, stops, front_passes}
-use Rattle.fx_parse.proofs.Suffixes.{grows, tall}
-use Rattle.fx_parse.proofs.Then.{Reads, says_deep}
-use Rattle.fx_parse.proofs.Toks.{sign, a_zero, may_apart, may_within, not_within}
+use Rattle.fx_parse.proofs.phrases.Beginnings.{paren_begun}
+use Rattle.fx_parse.proofs.phrases.Choices.{says_choice}
+use Rattle.fx_parse.proofs.phrases.Far.{Used, says_far, used_by, used_none}
+use Rattle.fx_parse.proofs.phrases.Functions.{says_function}
+use Rattle.fx_parse.proofs.phrases.Primaries.{literal_low}
+use Rattle.fx_parse.proofs.phrases.Runs.{run_height}
+use Rattle.fx_parse.proofs.phrases.Says.{Says}
+use Rattle.fx_parse.proofs.phrases.Shortest.{zero_expr}
+use Rattle.fx_parse.proofs.sorts.Sight.{at, at_front, opens, closes, parts_from, assigns, leads, Seen, seen_into, seen_back, function_seen, level_shut, no_parens}
+use Rattle.fx_parse.proofs.phrases.Stops.{Low, forbidden, stops, front_passes}
+use Rattle.fx_parse.proofs.phrases.Suffixes.{grows, tall}
+use Rattle.fx_parse.proofs.phrases.Then.{Reads, says_deep}
+use Rattle.fx_parse.proofs.sorts.Toks.{sign, a_zero, may_apart, may_within, not_within}
 
 -- ---- the same phrases where the first items tell so
 

@@ -11,10 +11,10 @@ use Rattle.fx_parse.specs.Grammar.{IsTok, Link, IsExpr, by_choice, by_function, 
 use Rattle.fx_parse.specs.ReadPrimary.{starters}
 use Rattle.fx_parse.specs.ReadRuns.{suffix_starters}
 use Rattle.fx_parse.specs.ReadFunctions.{sees, sees_function}
-use Rattle.fx_parse.proofs.Beginnings.{expr_first}
-use Rattle.fx_parse.proofs.Stops.{front_passes}
-use Rattle.fx_parse.proofs.Suffixes.{suffix_first}
-use Rattle.fx_parse.proofs.Toks.{disjoint, may_apart, may_within, may_not}
+use Rattle.fx_parse.proofs.phrases.Beginnings.{expr_first}
+use Rattle.fx_parse.proofs.phrases.Stops.{front_passes}
+use Rattle.fx_parse.proofs.phrases.Suffixes.{suffix_first}
+use Rattle.fx_parse.proofs.sorts.Toks.{disjoint, may_apart, may_within, may_not}
 
 -- ---- the item so many places ahead
 

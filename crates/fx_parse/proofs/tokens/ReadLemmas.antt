@@ -17,8 +17,8 @@ use Rattle.fx_parse.specs.declared.item.Lexeme.{Lexeme}
 use Rattle.fx_parse.specs.declared.item.Lexeme.TheVariants as lexeme
 use Rattle.fx_parse.specs.Escapes.{taken}
 use Rattle.fx_parse.specs.Lexemes.{IsQuoted, Tells, ReadsAs, AllRead}
-use Rattle.fx_parse.proofs.EscapeLemmas.{means_taken}
-use Rattle.fx_parse.proofs.SpanLemmas.{spelled_pairs}
+use Rattle.fx_parse.proofs.tokens.EscapeLemmas.{means_taken}
+use Rattle.fx_parse.proofs.tokens.SpanLemmas.{spelled_pairs}
 
 -- ---- one more
 

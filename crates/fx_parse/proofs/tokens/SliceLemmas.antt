@@ -24,7 +24,7 @@ use Rattle.fx_parse.specs.declared.item.Lexeme.TheVariants as lexeme
 use Rattle.fx_parse.specs.Lexemes.{IsQuoted, closing, opening, slash, Tells}
 use Rattle.fx_time.specs.declared.span.Span.{Span as SpanOf}
 use Rattle.fx_parse.specs.Slices.{inner_of, HasInner, IsReadable}
-use Rattle.fx_parse.proofs.EscapeLemmas.{ascii_cut, means_taken}
+use Rattle.fx_parse.proofs.tokens.EscapeLemmas.{ascii_cut, means_taken}
 
 -- ---- every token has its form
 

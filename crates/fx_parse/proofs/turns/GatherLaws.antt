@@ -1,12 +1,11 @@
 -- One turn of the loops over parameters and over a block's assignments.
 use Rattle.std.proofs.Common.{◌≡◌, ℕ, suc, Bool, true, false, List, [], ◌∷◌, ◌++◌, map, Err, refl, ap, ◌∙◌}
-use Rattle.std.proofs.lemmas.List.{map-append}
 use Rattle.fx_ast.specs.declared.expr.Expr.{Expr}
 use Rattle.fx_ast.specs.declared.expr.Param.{Param, roll-Param}
 use Rattle.fx_ast.specs.declared.expr.ParamKind.{ParamKind}
 use Rattle.fx_ast.specs.declared.expr.Prop.{Prop, roll-Prop}
-use Rattle.fx_ast.proofs.ShapeLaws.{param_is, prop_is}
-use Rattle.fx_ast.specs.Shape.{OfParam, OfProp, shape, kind, param, prop}
+use Rattle.fx_ast.proofs.ListLaws.{params_push, props_push}
+use Rattle.fx_ast.specs.Shape.{OfParam, OfProp, tree_of, default_of, param, prop}
 use Rattle.fx_ast.specs.Tree.{Tree, Default}
 use Rattle.fx_scan.specs.declared.symbols.Symbol.TheVariants as symbol
 use Rattle.fx_scan.specs.declared.words.Word.TheVariants as word
@@ -70,8 +69,8 @@ block_none inner found w = refl
 
 -- ---- lists of parts that grow at their end
 
-pub pushed_param : (ps new : List Param) (x : List ℕ) (d : ParamKind) → new ≡ ps ++ roll-Param (record { label = x; default = d }) ∷ [] → map param new ≡ map param ps ++ record { label = x; default = kind d } ∷ []
-pushed_param ps new x d e = ap (map param) e ∙ map-append param ps (roll-Param (record { label = x; default = d }) ∷ []) ∙ ap (λ y. map param ps ++ y ∷ []) (param_is (roll-Param (record { label = x; default = d })))
+pub pushed_param : (ps new : List Param) (x : List ℕ) (d : ParamKind) → new ≡ ps ++ roll-Param (record { label = x; default = d }) ∷ [] → map param new ≡ map param ps ++ record { label = x; default = default_of d } ∷ []
+pushed_param ps new x d e = ap (map param) e ∙ params_push ps x d
 
-pub pushed_prop : (ps new : List Prop) (x : List ℕ) (e : Expr) → new ≡ ps ++ roll-Prop (record { label = x; value = e }) ∷ [] → map prop new ≡ map prop ps ++ record { label = x; value = shape e } ∷ []
-pushed_prop ps new x a e = ap (map prop) e ∙ map-append prop ps (roll-Prop (record { label = x; value = a }) ∷ []) ∙ ap (λ y. map prop ps ++ y ∷ []) (prop_is (roll-Prop (record { label = x; value = a })))
+pub pushed_prop : (ps new : List Prop) (x : List ℕ) (e : Expr) → new ≡ ps ++ roll-Prop (record { label = x; value = e }) ∷ [] → map prop new ≡ map prop ps ++ record { label = x; value = tree_of e } ∷ []
+pushed_prop ps new x a e = ap (map prop) e ∙ props_push ps x a

@@ -1,20 +1,21 @@
 -- What the loops over parameters and over a block's assignments gather is what the readings give.
 use Rattle.std.proofs.Common.{◌≡◌, ℕ, zero, suc, Bool, true, false, cond, List, [], ◌∷◌, Result, Ok, Err, refl, sym, ap, ◌∙◌}
 use Rattle.fx_ast.specs.Shape.{OfParam, OfProp, params_of, props_of}
+use Rattle.fx_ast.proofs.ListLaws.{ahead_push, params_end, props_end}
 use Rattle.fx_ast.specs.Tree.{Tree, Default, Params, Props, no_params, more_params, no_props, more_props}
 use Rattle.fx_scan.specs.declared.symbols.Symbol.TheVariants as symbol
 use Rattle.fx_scan.specs.declared.words.Word.TheVariants as word
 use Rattle.fx_parse.specs.declared.item.Item.{Item}
 use Rattle.fx_parse.specs.declared.stop.Stop.{Stop}
 use Rattle.fx_parse.specs.declared.stop.Stop.TheVariants as stop
-use Rattle.fx_parse.specs.Ahead.{ahead}
+use Rattle.fx_ast.specs.Lists.{ahead, prop_before, param_before}
 use Rattle.fx_parse.specs.Closing.{closing}
 use Rattle.fx_parse.specs.Cursor.{Gives}
 use Rattle.fx_parse.specs.Gathering.{with_param, with_prop, params_from, block_from, read_param, read_binding, read_return}
 use Rattle.fx_parse.specs.Items.{Items, passes, first, label, is_name, is_symbol, is_word}
 use Rattle.fx_parse.specs.ReadFunctions.{read_default, read_more_params, read_params, read_block}
 use Rattle.fx_parse.specs.Readings.{Out, Got, Bad, mapped, go_on, both, token}
-use Rattle.fx_parse.proofs.ListTurns.{mapped_twice, ahead_push}
+use Rattle.fx_parse.proofs.turns.ListTurns.{mapped_twice}
 
 -- a function gives under a map what it gives
 pub gives_mapped : {A B C : Type 0} (f : A → B) (h : B → C) (o : Out B) (o' : Out C) (r : Result A Stop) (new : Items) → mapped h o ≡ o' → Gives f o r new → Gives (λ a. h (f a)) o' r new
@@ -32,14 +33,13 @@ held a o = mapped (λ b. (a, b)) o
 -- ---- parameters
 
 abbrev pub before : List OfParam → Params → Params
-before found = ahead (λ p. more_params p.label p.default) found
+before = ahead param_before
 
 before_none : (found : List OfParam) → params_of found ≡ before found no_params
-before_none [] = refl
-before_none (x ∷ xs) = ap (more_params x.label x.default) (before_none xs)
+before_none found = sym (params_end found)
 
 pushed : (found : List OfParam) (p : List ℕ × Default × Bool) (ps : Params) → before (with_param found p) ps ≡ before found (more_params p.0 p.1 ps)
-pushed found p ps = ahead_push (λ (q : OfParam). more_params q.label q.default) found (record { label = p.0; default = p.1 }) ps
+pushed found p ps = ahead_push param_before found (record { label = p.0; default = p.1 }) ps
 
 close_token : Items → Out Item
 close_token = token (is_symbol symbol.CloseParen)
@@ -141,17 +141,16 @@ abbrev pub pair_of : Props → Tree → Props × Tree
 pair_of ps e = (ps, e)
 
 abbrev pub block_before : List OfProp → Props × Tree → Props × Tree
-block_before found p = (ahead (λ q. more_props q.label q.value) found p.0, p.1)
+block_before found p = (ahead prop_before found p.0, p.1)
 
 abbrev pub seen_block : List OfProp × Tree → Props × Tree
 seen_block p = (props_of p.0, p.1)
 
-props_none : (found : List OfProp) → props_of found ≡ ahead (λ q. more_props q.label q.value) found no_props
-props_none [] = refl
-props_none (x ∷ xs) = ap (more_props x.label x.value) (props_none xs)
+props_none : (found : List OfProp) → props_of found ≡ ahead prop_before found no_props
+props_none found = sym (props_end found)
 
 block_shift : (found : List OfProp) (p : List ℕ × Tree) (o : Out (Props × Tree)) → mapped (block_before (with_prop found p)) o ≡ mapped (block_before found) (mapped (λ b. pair_of (more_props p.0 p.1 b.0) b.1) o)
-block_shift found p (Got b r) = ap (λ (z : Props). Got (z, b.1) r) (ahead_push (λ (q : OfProp). more_props q.label q.value) found (record { label = p.0; value = p.1 }) b.0)
+block_shift found p (Got b r) = ap (λ (z : Props). Got (z, b.1) r) (ahead_push prop_before found (record { label = p.0; value = p.1 }) b.0)
 block_shift found p (Bad d r) = refl
 
 -- a binding and the block after it

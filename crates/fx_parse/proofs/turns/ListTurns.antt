@@ -1,17 +1,16 @@
 -- Readings of lists, one of their parts at a time.
 use Rattle.std.proofs.Common.{◌≡◌, ℕ, suc, ◌+◌, ◌-◌, ◌<◌, ◌≤◌, true, false, List, [], ◌∷◌, ◌++◌, map, refl, sym, ap, ◌∙◌, arith}
 use Rattle.std.specs.Prelude.{Bool, cond, nat_le}
-use Rattle.std.proofs.lemmas.List.{map-append}
 use Rattle.fx_ast.specs.declared.expr.Expr.{Expr}
 use Rattle.fx_ast.specs.declared.expr.Part.{Part}
 use Rattle.fx_ast.specs.declared.expr.Part.TheVariants as part_variants
 use Rattle.fx_ast.specs.declared.expr.Prop.{Prop, roll-Prop}
-use Rattle.fx_ast.specs.Shape.{OfPart, OfProp, a_piece, a_hole as hole_part, shape, part, prop, trees_of, parts_of, props_of}
+use Rattle.fx_ast.specs.Shape.{OfPart, OfProp, a_piece, a_hole as hole_part, tree_of, part, prop, trees_of, parts_of, props_of}
 use Rattle.fx_ast.specs.Tree.{Tree, Trees, Parts, Props, no_trees, more_trees, no_parts, piece, hole, no_props, more_props}
-use Rattle.fx_ast.proofs.ShapeLaws.{part_piece, part_hole, prop_is}
+use Rattle.fx_ast.proofs.ListLaws.{trees_more, pieces_more, holes_more, props_more, trees_all, parts_all, props_all}
 use Rattle.fx_scan.specs.declared.symbols.Symbol.TheVariants as symbol
 use Rattle.fx_parse.specs.declared.item.Item.{Item}
-use Rattle.fx_parse.specs.Ahead.{ahead, part_before, trees_before, props_before, parts_before}
+use Rattle.fx_ast.specs.Lists.{trees_before, props_before, parts_before}
 use Rattle.fx_parse.specs.Closing.{closing, read_element, read_prop, read_piece, read_hole}
 use Rattle.fx_parse.specs.Grammar.{Group, closer, labels}
 use Rattle.fx_parse.specs.Items.{Items, passes, first, label, is_mid, is_tail, is_symbol}
@@ -45,15 +44,13 @@ pub mapped_twice : {A B C : Type 0} (f : B → C) (g : A → B) (o : Out A) → 
 mapped_twice f g (Got a r) = refl
 mapped_twice f g (Bad d r) = refl
 
+pub mapped_by : {A B : Type 0} (f g : A → B) (o : Out A) → ((a : A) → f a ≡ g a) → mapped f o ≡ mapped g o
+mapped_by f g (Got a r) e = ap (λ b. Got b r) (e a)
+mapped_by f g (Bad d r) e = refl
+
 pub second_only : {A B : Type 0} (o : Out A) (g : A → Items → Out B) → mapped (λ (p : A × B). p.1) (go_on o (λ a r. mapped (λ b. (a, b)) (g a r))) ≡ go_on o g
 second_only {A = A} {B = B} (Got a r) g = mapped_twice (λ (p : A × B). p.1) (λ b. (a, b)) (g a r) ∙ mapped_same (g a r)
 second_only (Bad d r) g = refl
-
--- ---- lists that grow at their end, put before what is read after them
-
-pub ahead_push : {A L : Type 0} (cons : A → L → L) (xs : List A) (x : A) (rest : L) → ahead cons (xs ++ x ∷ []) rest ≡ ahead cons xs (cons x rest)
-ahead_push cons [] x rest = refl
-ahead_push cons (y ∷ xs) x rest = ap (cons y) (ahead_push cons xs x rest)
 
 -- ---- a part of a list, and whether the list ends with it
 
@@ -171,71 +168,28 @@ pub holes_turn : (inner : Items → Out Tree) (n : ℕ) (w : Items)
 unfolding read_holes read_hole
 holes_turn inner n w = hole_one (read_holes inner n) (inner w)
 
--- ---- what the code's lists are
-
-pub trees_more : (es : List Expr) (e : Expr) (rest : Trees) → trees_before (es ++ e ∷ []) rest ≡ trees_before es (more_trees (shape e) rest)
-trees_more es e rest = rw (map-append shape es (e ∷ [])) (ahead_push more_trees (map shape es) (shape e) rest)
-
-pub props_more : (ps : List Prop) (x : List ℕ) (e : Expr) (rest : Props)
-    → props_before (ps ++ roll-Prop (record { label = x; value = e }) ∷ []) rest ≡ props_before ps (more_props x (shape e) rest)
-props_more ps x e rest = rw (map-append prop ps (roll-Prop (record { label = x; value = e }) ∷ []))
-    (ahead_push (λ p. more_props p.label p.value) (map prop ps) (prop (roll-Prop (record { label = x; value = e }))) rest
-    ∙ ap (λ p. ahead (λ p. more_props p.label p.value) (map prop ps) (more_props p.label p.value rest)) (prop_is (roll-Prop (record { label = x; value = e }))))
-
-pub piece_more : (ps : List Part) (s : List ℕ) (rest : Parts) → parts_before (ps ++ part_variants.Piece s ∷ []) rest ≡ parts_before ps (piece s rest)
-piece_more ps s rest = rw (map-append part ps (part_variants.Piece s ∷ []), part_piece s) (ahead_push part_before (map part ps) (a_piece s) rest)
-
-pub hole_before : (ps : List Part) (e : Expr) (rest : Parts) → parts_before (ps ++ part_variants.Hole e ∷ []) rest ≡ parts_before ps (hole (shape e) rest)
-hole_before ps e rest = rw (map-append part ps (part_variants.Hole e ∷ []), part_hole e) (ahead_push part_before (map part ps) (hole_part (shape e)) rest)
-
-trees_end : (ts : List Tree) → ahead more_trees ts no_trees ≡ trees_of ts
-trees_end [] = refl
-trees_end (t ∷ ts) = ap (more_trees t) (trees_end ts)
-
-pub trees_all : (es : List Expr) → trees_before es no_trees ≡ trees_of (map shape es)
-trees_all es = trees_end (map shape es)
-
-props_end : (ps : List OfProp) → ahead (λ p. more_props p.label p.value) ps no_props ≡ props_of ps
-props_end [] = refl
-props_end (p ∷ ps) = ap (more_props p.label p.value) (props_end ps)
-
-pub props_all : (ps : List Prop) → props_before ps no_props ≡ props_of (map prop ps)
-props_all ps = props_end (map prop ps)
-
-parts_end : (ps : List OfPart) → ahead part_before ps no_parts ≡ parts_of ps
-parts_end [] = refl
-parts_end (a_piece s ∷ ps) = ap (piece s) (parts_end ps)
-parts_end (hole_part e ∷ ps) = ap (hole e) (parts_end ps)
-
-pub parts_all : (ps : List Part) → parts_before ps no_parts ≡ parts_of (map part ps)
-parts_all ps = parts_end (map part ps)
-
-pub mapped_by : {A B : Type 0} (f g : A → B) (o : Out A) → ((a : A) → f a ≡ g a) → mapped f o ≡ mapped g o
-mapped_by f g (Got a r) e = ap (λ b. Got b r) (e a)
-mapped_by f g (Bad d r) e = refl
-
 -- ---- a turn of the code's loops, for each way out of it
 
 abbrev pub BracketFirst : Items → Bool
 BracketFirst w = passes (is_symbol symbol.CloseBracket) (first w)
 
 pub elements_closed : (k : ℕ) (inner : Items → Out Tree) (n : ℕ) (w : Items) (found : List Expr) (x : Item) (r : Items) → BracketFirst w ≡ true
-    → token (is_symbol symbol.CloseBracket) w ≡ Got x r → mapped (trees_before found) (read_elements k inner (suc n) w) ≡ Got (trees_of (map shape found)) r
+    → token (is_symbol symbol.CloseBracket) w ≡ Got x r → mapped (trees_before found) (read_elements k inner (suc n) w) ≡ Got (trees_of (map tree_of found)) r
 elements_closed k inner n w found x r sees is = rw (elements_turn k inner n w, sees, is) (ap (λ l. Got l r) (trees_all found))
 
 pub elements_last : (k : ℕ) (inner : Items → Out Tree) (n : ℕ) (w : Items) (found after : List Expr) (e : Expr) (b : Bool) (r : Items) → BracketFirst w ≡ false
-    → read_element k inner w ≡ Got (shape e, b) r → b ≡ true → after ≡ found ++ e ∷ []
-    → mapped (trees_before found) (read_elements k inner (suc n) w) ≡ Got (trees_of (map shape after)) r
+    → read_element k inner w ≡ Got (tree_of e, b) r → b ≡ true → after ≡ found ++ e ∷ []
+    → mapped (trees_before found) (read_elements k inner (suc n) w) ≡ Got (trees_of (map tree_of after)) r
 elements_last k inner n w found after e b r sees is ends new = rw (elements_turn k inner n w, sees, new)
-    (row_last no_trees (λ (p : Tree × Bool). more_trees p.0) (λ p. p.1) (read_elements k inner n) (trees_before found) (shape e, b) r (read_element k inner w) is ends
+    (row_last no_trees (λ (p : Tree × Bool). more_trees p.0) (λ p. p.1) (read_elements k inner n) (trees_before found) (tree_of e, b) r (read_element k inner w) is ends
     ∙ ap (λ l. Got l r) (sym (trees_more found e no_trees) ∙ trees_all (found ++ e ∷ [])))
 
 pub elements_next : (k : ℕ) (inner : Items → Out Tree) (n : ℕ) (w : Items) (found after : List Expr) (e : Expr) (b : Bool) (r : Items) → BracketFirst w ≡ false
-    → read_element k inner w ≡ Got (shape e, b) r → b ≡ false → after ≡ found ++ e ∷ []
+    → read_element k inner w ≡ Got (tree_of e, b) r → b ≡ false → after ≡ found ++ e ∷ []
     → mapped (trees_before found) (read_elements k inner (suc n) w) ≡ mapped (trees_before after) (read_elements k inner n r)
 elements_next k inner n w found after e b r sees is ends new = rw (elements_turn k inner n w, sees, new)
-    (row_next no_trees (λ (p : Tree × Bool). more_trees p.0) (λ p. p.1) (read_elements k inner n) (trees_before found) (shape e, b) r (read_element k inner w) is ends
-    ∙ mapped_by (λ l. trees_before found (more_trees (shape e) l)) (trees_before (found ++ e ∷ [])) (read_elements k inner n r) (λ l. sym (trees_more found e l)))
+    (row_next no_trees (λ (p : Tree × Bool). more_trees p.0) (λ p. p.1) (read_elements k inner n) (trees_before found) (tree_of e, b) r (read_element k inner w) is ends
+    ∙ mapped_by (λ l. trees_before found (more_trees (tree_of e) l)) (trees_before (found ++ e ∷ [])) (read_elements k inner n r) (λ l. sym (trees_more found e l)))
 
 pub elements_fail : (k : ℕ) (inner : Items → Out Tree) (n : ℕ) (w : Items) (found : List Expr) (stop : Stop) (r : Items) → BracketFirst w ≡ false
     → Gives an_element (read_element k inner w) (Err stop) r → Gives trees (mapped (trees_before found) (read_elements k inner (suc n) w)) (Err stop) r
@@ -248,18 +202,18 @@ pub props_closed : (g : Group) (k : ℕ) (inner : Items → Out Tree) (n : ℕ) 
 props_closed g k inner n w found x r sees is = rw (props_turn g k inner n w, sees, is) (ap (λ l. Got l r) (props_all found))
 
 pub props_last : (g : Group) (k : ℕ) (inner : Items → Out Tree) (n : ℕ) (w : Items) (found after : List Prop) (x : List ℕ) (e : Expr) (b : Bool) (r : Items)
-    → passes (closer g) (first w) ≡ false → read_prop g k inner w ≡ Got (x, shape e, b) r → b ≡ true → after ≡ found ++ roll-Prop (record { label = x; value = e }) ∷ []
+    → passes (closer g) (first w) ≡ false → read_prop g k inner w ≡ Got (x, tree_of e, b) r → b ≡ true → after ≡ found ++ roll-Prop (record { label = x; value = e }) ∷ []
     → mapped (props_before found) (read_props g k inner (suc n) w) ≡ Got (props_of (map prop after)) r
 props_last g k inner n w found after x e b r sees is ends new = rw (props_turn g k inner n w, sees, new)
-    (row_last no_props (λ (p : List ℕ × Tree × Bool). more_props p.0 p.1) (λ p. p.2) (read_props g k inner n) (props_before found) (x, shape e, b) r (read_prop g k inner w) is ends
+    (row_last no_props (λ (p : List ℕ × Tree × Bool). more_props p.0 p.1) (λ p. p.2) (read_props g k inner n) (props_before found) (x, tree_of e, b) r (read_prop g k inner w) is ends
     ∙ ap (λ l. Got l r) (sym (props_more found x e no_props) ∙ props_all (found ++ roll-Prop (record { label = x; value = e }) ∷ [])))
 
 pub props_next : (g : Group) (k : ℕ) (inner : Items → Out Tree) (n : ℕ) (w : Items) (found after : List Prop) (x : List ℕ) (e : Expr) (b : Bool) (r : Items)
-    → passes (closer g) (first w) ≡ false → read_prop g k inner w ≡ Got (x, shape e, b) r → b ≡ false → after ≡ found ++ roll-Prop (record { label = x; value = e }) ∷ []
+    → passes (closer g) (first w) ≡ false → read_prop g k inner w ≡ Got (x, tree_of e, b) r → b ≡ false → after ≡ found ++ roll-Prop (record { label = x; value = e }) ∷ []
     → mapped (props_before found) (read_props g k inner (suc n) w) ≡ mapped (props_before after) (read_props g k inner n r)
 props_next g k inner n w found after x e b r sees is ends new = rw (props_turn g k inner n w, sees, new)
-    (row_next no_props (λ (p : List ℕ × Tree × Bool). more_props p.0 p.1) (λ p. p.2) (read_props g k inner n) (props_before found) (x, shape e, b) r (read_prop g k inner w) is ends
-    ∙ mapped_by (λ l. props_before found (more_props x (shape e) l)) (props_before (found ++ roll-Prop (record { label = x; value = e }) ∷ [])) (read_props g k inner n r)
+    (row_next no_props (λ (p : List ℕ × Tree × Bool). more_props p.0 p.1) (λ p. p.2) (read_props g k inner n) (props_before found) (x, tree_of e, b) r (read_prop g k inner w) is ends
+    ∙ mapped_by (λ l. props_before found (more_props x (tree_of e) l)) (props_before (found ++ roll-Prop (record { label = x; value = e }) ∷ [])) (read_props g k inner n r)
     (λ l. sym (props_more found x e l)))
 
 pub props_fail : (g : Group) (k : ℕ) (inner : Items → Out Tree) (n : ℕ) (w : Items) (found : List Prop) (stop : Stop) (r : Items) → passes (closer g) (first w) ≡ false
@@ -269,22 +223,22 @@ props_fail g k inner n w found (stops.Refused d) r sees is = rw (props_turn g k 
 props_fail g k inner n w found stops.Memory r sees is = is
 
 both_parts : (found inside after : List Part) (e : Expr) (s : List ℕ) (rest : Parts) → inside ≡ found ++ part_variants.Hole e ∷ [] → after ≡ inside ++ part_variants.Piece s ∷ []
-    → parts_before after rest ≡ parts_before found (hole (shape e) (piece s rest))
-both_parts found inside after e s rest one two = rw (two, one) (piece_more (found ++ part_variants.Hole e ∷ []) s rest ∙ hole_before found e (piece s rest))
+    → parts_before after rest ≡ parts_before found (hole (tree_of e) (piece s rest))
+both_parts found inside after e s rest one two = rw (two, one) (pieces_more (found ++ part_variants.Hole e ∷ []) s rest ∙ holes_more found e (piece s rest))
 
 pub holes_last : (inner : Items → Out Tree) (n : ℕ) (w : Items) (found inside after : List Part) (e : Expr) (s : List ℕ) (b : Bool) (r : Items)
-    → read_hole inner w ≡ Got (shape e, s, b) r → b ≡ true → inside ≡ found ++ part_variants.Hole e ∷ [] → after ≡ inside ++ part_variants.Piece s ∷ []
+    → read_hole inner w ≡ Got (tree_of e, s, b) r → b ≡ true → inside ≡ found ++ part_variants.Hole e ∷ [] → after ≡ inside ++ part_variants.Piece s ∷ []
     → mapped (parts_before found) (read_holes inner (suc n) w) ≡ Got (parts_of (map part after)) r
 holes_last inner n w found inside after e s b r is ends one two = rw (holes_turn inner n w)
-    (row_last no_parts (λ (p : Tree × List ℕ × Bool) l. hole p.0 (piece p.1 l)) (λ p. p.2) (read_holes inner n) (parts_before found) (shape e, s, b) r (read_hole inner w) is ends
+    (row_last no_parts (λ (p : Tree × List ℕ × Bool) l. hole p.0 (piece p.1 l)) (λ p. p.2) (read_holes inner n) (parts_before found) (tree_of e, s, b) r (read_hole inner w) is ends
     ∙ ap (λ l. Got l r) (sym (both_parts found inside after e s no_parts one two) ∙ parts_all after))
 
 pub holes_next : (inner : Items → Out Tree) (n : ℕ) (w : Items) (found inside after : List Part) (e : Expr) (s : List ℕ) (b : Bool) (r : Items)
-    → read_hole inner w ≡ Got (shape e, s, b) r → b ≡ false → inside ≡ found ++ part_variants.Hole e ∷ [] → after ≡ inside ++ part_variants.Piece s ∷ []
+    → read_hole inner w ≡ Got (tree_of e, s, b) r → b ≡ false → inside ≡ found ++ part_variants.Hole e ∷ [] → after ≡ inside ++ part_variants.Piece s ∷ []
     → mapped (parts_before found) (read_holes inner (suc n) w) ≡ mapped (parts_before after) (read_holes inner n r)
 holes_next inner n w found inside after e s b r is ends one two = rw (holes_turn inner n w)
-    (row_next no_parts (λ (p : Tree × List ℕ × Bool) l. hole p.0 (piece p.1 l)) (λ p. p.2) (read_holes inner n) (parts_before found) (shape e, s, b) r (read_hole inner w) is ends
-    ∙ mapped_by (λ l. parts_before found (hole (shape e) (piece s l))) (parts_before after) (read_holes inner n r) (λ l. sym (both_parts found inside after e s l one two)))
+    (row_next no_parts (λ (p : Tree × List ℕ × Bool) l. hole p.0 (piece p.1 l)) (λ p. p.2) (read_holes inner n) (parts_before found) (tree_of e, s, b) r (read_hole inner w) is ends
+    ∙ mapped_by (λ l. parts_before found (hole (tree_of e) (piece s l))) (parts_before after) (read_holes inner n r) (λ l. sym (both_parts found inside after e s l one two)))
 
 pub holes_fail : (inner : Items → Out Tree) (n : ℕ) (w : Items) (found : List Part) (stop : Stop) (r : Items) → Gives a_hole (read_hole inner w) (Err stop) r
     → Gives parts (mapped (parts_before found) (read_holes inner (suc n) w)) (Err stop) r

@@ -4,16 +4,13 @@ use Rattle.std.specs.Prelude.{min}
 use Rattle.fx_base.specs.declared.place.Place.{Place}
 use Rattle.fx_ast.specs.declared.expr.Expr.{roll-Expr}
 use Rattle.fx_ast.specs.declared.expr.Node.{Node}
-use Rattle.fx_ast.specs.Shape.{shape, form}
+use Rattle.fx_ast.specs.Shape.{tree_of, shape_of}
 use Rattle.fx_ast.specs.Tree.{tree}
-use Rattle.fx_ast.proofs.ShapeLaws.{shape_is}
+use Rattle.fx_ast.proofs.ShapeLaws.{tree_made}
 use Rattle.fx_ast.specs.Levels.{below, height}
 use Rattle.fx_parse.specs.Measures.{capped}
 
-pub made_is : (p : Place) (n : Node) → shape (roll-Expr (record { place = p; node = n })) ≡ tree p (form n)
-made_is p n = shape_is (roll-Expr (record { place = p; node = n }))
-
-pub made_levels : (p : Place) (n : Node) (l m : ℕ) → l ≡ capped (below (form n)) → m ≡ min (l + 1) (2 ^ 64 - 1)
-    → m ≡ capped (height (shape (roll-Expr (record { place = p; node = n }))))
+pub made_levels : (p : Place) (n : Node) (l m : ℕ) → l ≡ capped (below (shape_of n)) → m ≡ min (l + 1) (2 ^ 64 - 1)
+    → m ≡ capped (height (tree_of (roll-Expr (record { place = p; node = n }))))
 unfolding height
-made_levels p n l m low is = rw (made_is p n) (grind arith)
+made_levels p n l m low is = rw (tree_made p n) (grind arith)

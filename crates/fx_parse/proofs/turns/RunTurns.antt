@@ -1,14 +1,13 @@
 -- Operators between operands, one at a time, and what they make.
 use Rattle.std.proofs.Common.{◌≡◌, ℕ, zero, suc, ◌+◌, ◌==◌, true, false, List, [], ◌∷◌, ◌++◌, length, map, refl, sym, ap, subst, ◌∙◌, append-nil, append_assoc, arith}
-use Rattle.std.proofs.lemmas.List.{map-append}
 use Rattle.std.specs.Prelude.{Bool, None, Some}
 use Rattle.fx_base.specs.declared.place.Place.{Place}
 use Rattle.fx_ast.specs.declared.expr.Expr.{Expr}
 use Rattle.fx_ast.specs.declared.expr.Infix.{Infix}
 use Rattle.fx_ast.specs.declared.expr.Link.{Link as Part, roll-Link}
-use Rattle.fx_ast.specs.Shape.{link, shape, trees_of, links_of}
+use Rattle.fx_ast.specs.Shape.{link, tree_of, trees_of, links_of}
 use Rattle.fx_ast.specs.Tree.{Tree, tree, pipe, chain, more_trees, more_links}
-use Rattle.fx_ast.proofs.ShapeLaws.{link_is}
+use Rattle.fx_ast.proofs.ListLaws.{links_push, trees_push}
 use Rattle.fx_parse.specs.declared.item.Item.{Item}
 use Rattle.fx_parse.specs.Grammar.{Link, calls_of, links_of as links_made, run}
 use Rattle.fx_parse.specs.Items.{Items, one_of, passes, first, start, infix_of, operators, prefixes}
@@ -18,7 +17,7 @@ use Rattle.fx_parse.specs.declared.phrase.Phrase.{Phrase}
 use Rattle.fx_parse.specs.declared.phrase.Phrase.TheVariants.{Whole, Called, Line}
 use Rattle.fx_parse.specs.ReadExprs.{read_called, read_expr, read_level, read_phrase}
 use Rattle.fx_parse.specs.ReadRuns.{has_room, read_link, operator_run, read_run, read_layer, read_prefix, read_postfix}
-use Rattle.fx_parse.proofs.ListTurns.{mapped_twice, mapped_by}
+use Rattle.fx_parse.proofs.turns.ListTurns.{mapped_twice, mapped_by}
 
 pub line_above : (m : ℕ) → operators (m + 1) ≡ operators (suc m)
 line_above m = let e : m + 1 ≡ suc m = omega arith in ap operators e
@@ -70,12 +69,11 @@ module _ {X : Type 0} (f : Link → X) (k m : ℕ) (operand : Items → Out Tree
 -- ---- lists that grow at their end
 
 pub pushed_link : (ls new : List Part) (p : Place) (op : Infix) (e : Expr) → new ≡ ls ++ roll-Link (record { place = p; op = op; right = e }) ∷ []
-    → map link new ≡ map link ls ++ record { place = p; op = op; right = shape e } ∷ []
-pushed_link ls new p op e is = ap (map link) is ∙ map-append link ls (roll-Link (record { place = p; op = op; right = e }) ∷ [])
-    ∙ ap (λ y. map link ls ++ y ∷ []) (link_is (roll-Link (record { place = p; op = op; right = e })))
+    → map link new ≡ map link ls ++ record { place = p; op = op; right = tree_of e } ∷ []
+pushed_link ls new p op e is = ap (map link) is ∙ links_push ls p op e
 
-pub pushed_tree : (es new : List Expr) (e : Expr) → new ≡ es ++ e ∷ [] → map shape new ≡ map shape es ++ shape e ∷ []
-pushed_tree es new e is = ap (map shape) is ∙ map-append shape es (e ∷ [])
+pub pushed_tree : (es new : List Expr) (e : Expr) → new ≡ es ++ e ∷ [] → map tree_of new ≡ map tree_of es ++ tree_of e ∷ []
+pushed_tree es new e is = ap (map tree_of) is ∙ trees_push es e
 
 -- ---- after the first operand
 

@@ -11,10 +11,10 @@ use Rattle.fx_parse.specs.Grammar.{Suffix, put, indexed, may_end}
 use Rattle.fx_parse.specs.Items.{Items, one_of, passes, first, is_symbol}
 use Rattle.fx_ast.specs.Levels.{height}
 use Rattle.fx_parse.specs.Measures.{plain_of}
-use Rattle.fx_parse.specs.Nests.{tree_of}
+use Rattle.fx_parse.specs.Nests.{tree_in}
 use Rattle.fx_parse.specs.Readings.{Out, Got, Bad, mapped, go_on, links}
 use Rattle.fx_parse.specs.ReadRuns.{read_suffix, suffix_starters, suffixes}
-use Rattle.fx_parse.proofs.ListTurns.{mapped_twice, mapped_same}
+use Rattle.fx_parse.proofs.turns.ListTurns.{mapped_twice, mapped_same}
 
 pub indexed_plain : (begin : Place) (t : Tree) (place : Place) (i : Tree) (s : List ℕ) → plain_of i ≡ Some s → indexed begin t place i ≡ tree begin (member t s)
 indexed_plain begin t place (tree p (text (piece x no_parts))) s e = ap (λ y. tree begin (member t y)) cc
@@ -98,7 +98,7 @@ module _ (must_call : Bool) (begin : Place) (k l : ℕ) (inner within : Items �
   suffix_next n t u w r e f is = suffix_step n t w e f ∙ ap (λ o. go_on o (λ u r. links (suffixes must_call begin k l inner within) n u r)) is
 
   pub suffix_fail : (n : ℕ) (t : Tree) (w : Items) (stop : Stop) (r : Items) → passes (one_of suffix_starters) (first w) ≡ true
-      → nat_le (height t) (cond (passes (is_symbol symbol.OpenParen) (first w)) k l) ≡ true → Gives tree_of (mapped (put begin t) (read_suffix k inner within w)) (Err stop) r
-      → Gives tree_of (links (suffixes must_call begin k l inner within) (suc n) t w) (Err stop) r
+      → nat_le (height t) (cond (passes (is_symbol symbol.OpenParen) (first w)) k l) ≡ true → Gives tree_in (mapped (put begin t) (read_suffix k inner within w)) (Err stop) r
+      → Gives tree_in (links (suffixes must_call begin k l inner within) (suc n) t w) (Err stop) r
   suffix_fail n t w (stops.Refused d) r e f is = suffix_step n t w e f ∙ ap (λ o. go_on o (λ u r. links (suffixes must_call begin k l inner within) n u r)) is
   suffix_fail n t w stops.Memory r e f is = is

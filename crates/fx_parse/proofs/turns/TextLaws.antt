@@ -7,7 +7,7 @@ use Rattle.fx_ast.specs.declared.expr.Part.TheVariants as part_variants
 use Rattle.fx_ast.specs.Shape.{part, parts_of}
 use Rattle.fx_ast.specs.Tree.{Tree, tree, text, Parts, no_parts, piece, hole}
 use Rattle.fx_ast.proofs.ShapeLaws.{part_piece}
-use Rattle.fx_parse.specs.Ahead.{parts_before}
+use Rattle.fx_ast.specs.Lists.{parts_before}
 use Rattle.fx_parse.specs.Closing.{read_hole}
 use Rattle.fx_parse.specs.Items.{Items, passes, first, is_name, is_with}
 use Rattle.fx_parse.specs.Measures.{plain_of}
@@ -18,7 +18,7 @@ use Rattle.std.proofs.lemmas.Bool.Decides.{nat_tests}
 use Rattle.fx_parse.specs.Items.{label, is_head}
 use Rattle.fx_parse.specs.Readings.{token}
 use Rattle.fx_parse.specs.ReadPrimary.{read_holes, read_text, sees_with}
-use Rattle.fx_parse.proofs.ListTurns.{rows, holes_turn}
+use Rattle.fx_parse.proofs.turns.ListTurns.{rows, holes_turn}
 
 pub with_seen : (w : Items) → sees_with w ≡ (passes is_name (first w) && passes is_with (first (drop 1 w)))
 unfolding sees_with

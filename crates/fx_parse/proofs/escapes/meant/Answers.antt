@@ -2,7 +2,7 @@ use Rattle.std.proofs.Common.{◌≡◌, List, ℕ, false, [], drop, sym, subst,
 use Rattle.std.specs.Str.{IsUtf8}
 use Rattle.std.proofs.lemmas.List.{append-nil, drop_all}
 use Rattle.fx_parse.specs.Escapes.{taken}
-use Rattle.fx_parse.proofs.EscapeLemmas.{meant_utf8}
+use Rattle.fx_parse.proofs.tokens.EscapeLemmas.{meant_utf8}
 use Rattle.fx_parse.proofs.escapes.meant.Goals as goal
 
 pub text_of-requires : goal.text_of-requires

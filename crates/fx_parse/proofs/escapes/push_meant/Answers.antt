@@ -2,7 +2,7 @@ use Rattle.std.proofs.Common.{◌∷◌, [], ◌++◌, false, sym, ap, ◌∙◌
 use Rattle.std.proofs.lemmas.List.{append_assoc}
 use Rattle.fx_scan.specs.Forms.{Bytes}
 use Rattle.fx_parse.specs.Escapes.{taken}
-use Rattle.fx_parse.proofs.EscapeLemmas.{taken_waits, taken_itself}
+use Rattle.fx_parse.proofs.tokens.EscapeLemmas.{taken_waits, taken_itself}
 use Rattle.fx_parse.proofs.escapes.push_meant.Goals as goal
 
 pub returns-then-byte-eq92 : goal.returns-then-byte-eq92

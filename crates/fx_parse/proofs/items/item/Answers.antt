@@ -1,5 +1,5 @@
 use Rattle.std.proofs.Common.{◌≡◌, ◌+◌, ◌-◌, arith}
-use Rattle.fx_parse.proofs.SliceLemmas.{slice_readable}
+use Rattle.fx_parse.proofs.tokens.SliceLemmas.{slice_readable}
 use Rattle.fx_parse.proofs.items.item.Goals as goal
 
 pub lexeme-requires-clause-readable : goal.lexeme-requires-clause-readable

@@ -1,7 +1,7 @@
 use Rattle.std.proofs.Common.{◌≡◌, ◌<◌, ◌∙◌, length, take, ap, arith}
 use Rattle.std.proofs.lemmas.List.{take_all}
-use Rattle.fx_parse.proofs.SliceLemmas.{tokens_formed}
-use Rattle.fx_parse.proofs.ReadLemmas.{read_more, read_one}
+use Rattle.fx_parse.proofs.tokens.SliceLemmas.{tokens_formed}
+use Rattle.fx_parse.proofs.tokens.ReadLemmas.{read_more, read_one}
 use Rattle.fx_parse.proofs.items.items_of.Goals as goal
 
 pub item-requires-clause-formed : goal.item-requires-clause-formed

@@ -1,4 +1,4 @@
-use Rattle.fx_parse.proofs.SliceLemmas.{plain_tells, head_tells, mid_tells, tail_tells, pattern_tells, span_tells}
+use Rattle.fx_parse.proofs.tokens.SliceLemmas.{plain_tells, head_tells, mid_tells, tail_tells, pattern_tells, span_tells}
 use Rattle.fx_parse.proofs.items.lexeme.Goals as goal
 
 pub returns-in-Span : goal.returns-in-Span

@@ -1,7 +1,7 @@
 use Rattle.fx_parse.specs.ReadExprs.{read_expr}
 use Rattle.fx_parse.specs.ReadScripts.{read_script}
 use Rattle.fx_parse.specs.Telling.{Told}
-use Rattle.fx_parse.proofs.Told.{told_ok, told_only, told_refused, told_none}
+use Rattle.fx_parse.proofs.outcome.Told.{told_ok, told_only, told_refused, told_none}
 use Rattle.fx_parse.proofs.parser.parse.Goals as goal
 
 pub returns : goal.returns

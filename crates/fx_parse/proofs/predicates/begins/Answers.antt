@@ -1,7 +1,7 @@
 use Rattle.std.proofs.Common.{sym, ap, ◌∙◌}
 use Rattle.fx_parse.specs.Items.{among, one_of, sort}
 use Rattle.fx_parse.specs.ReadPrimary.{beginning}
-use Rattle.fx_parse.proofs.Sorts.{begins_else}
+use Rattle.fx_parse.proofs.sorts.Sorts.{begins_else}
 use Rattle.fx_parse.proofs.predicates.begins.Goals as goal
 
 pub returns-in-Symbol : goal.returns-in-Symbol

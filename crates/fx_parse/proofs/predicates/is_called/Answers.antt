@@ -1,7 +1,7 @@
 use Rattle.std.proofs.Common.{refl, ap, ◌&&◌, Bool}
 use Rattle.std.specs.Str.{bytes_eq}
 use Rattle.fx_parse.specs.Items.{one_of, is_called, bytes_of}
-use Rattle.fx_parse.proofs.Sorts.{not_name}
+use Rattle.fx_parse.proofs.sorts.Sorts.{not_name}
 use Rattle.fx_parse.proofs.predicates.is_called.Goals as goal
 
 pub returns-in-Name : goal.returns-in-Name

@@ -1,7 +1,7 @@
 use Rattle.std.proofs.Common.{sym, ap}
 use Rattle.fx_parse.specs.Items.{a_head, among, one_of, sort}
 use Rattle.std.proofs.Common.{[], ◌∷◌}
-use Rattle.fx_parse.proofs.Sorts.{not_head}
+use Rattle.fx_parse.proofs.sorts.Sorts.{not_head}
 use Rattle.fx_parse.proofs.predicates.is_head.Goals as goal
 
 pub returns-in-Head : goal.returns-in-Head

@@ -1,7 +1,7 @@
 use Rattle.std.proofs.Common.{refl, sym, ◌∙◌, [], ◌∷◌}
 use Rattle.fx_parse.specs.Items.{a_name, a_plain, one_of, sort}
-use Rattle.fx_parse.proofs.Sorts.{label_plain}
-use Rattle.fx_parse.proofs.Toks.{within}
+use Rattle.fx_parse.proofs.sorts.Sorts.{label_plain}
+use Rattle.fx_parse.proofs.sorts.Toks.{within}
 use Rattle.fx_parse.proofs.predicates.is_label.Goals as goal
 
 pub returns-then-is_name : goal.returns-then-is_name

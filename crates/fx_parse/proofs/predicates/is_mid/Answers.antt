@@ -1,7 +1,7 @@
 use Rattle.std.proofs.Common.{sym, ap}
 use Rattle.fx_parse.specs.Items.{a_mid, among, one_of, sort}
 use Rattle.std.proofs.Common.{[], ◌∷◌}
-use Rattle.fx_parse.proofs.Sorts.{not_mid}
+use Rattle.fx_parse.proofs.sorts.Sorts.{not_mid}
 use Rattle.fx_parse.proofs.predicates.is_mid.Goals as goal
 
 pub returns-in-Mid : goal.returns-in-Mid

@@ -1,7 +1,7 @@
 use Rattle.std.proofs.Common.{sym, ap}
 use Rattle.fx_parse.specs.Items.{a_name, among, one_of, sort}
 use Rattle.std.proofs.Common.{[], ◌∷◌}
-use Rattle.fx_parse.proofs.Sorts.{not_name}
+use Rattle.fx_parse.proofs.sorts.Sorts.{not_name}
 use Rattle.fx_parse.proofs.predicates.is_name.Goals as goal
 
 pub returns-in-Name : goal.returns-in-Name

@@ -1,7 +1,7 @@
 use Rattle.std.proofs.Common.{sym, ap}
 use Rattle.fx_parse.specs.Items.{a_plain, among, one_of, sort}
 use Rattle.std.proofs.Common.{[], ◌∷◌}
-use Rattle.fx_parse.proofs.Sorts.{not_plain}
+use Rattle.fx_parse.proofs.sorts.Sorts.{not_plain}
 use Rattle.fx_parse.proofs.predicates.is_plain.Goals as goal
 
 pub returns-in-Plain : goal.returns-in-Plain

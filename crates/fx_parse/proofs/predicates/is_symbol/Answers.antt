@@ -1,6 +1,6 @@
 use Rattle.std.proofs.Common.{◌∙◌}
 use Rattle.fx_parse.specs.Items.{one_of}
-use Rattle.fx_parse.proofs.Sorts.{symbol_same, not_symbol}
+use Rattle.fx_parse.proofs.sorts.Sorts.{symbol_same, not_symbol}
 use Rattle.fx_parse.proofs.predicates.is_symbol.Goals as goal
 
 pub returns-in-Symbol : goal.returns-in-Symbol

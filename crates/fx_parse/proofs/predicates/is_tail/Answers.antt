@@ -1,7 +1,7 @@
 use Rattle.std.proofs.Common.{sym, ap}
 use Rattle.fx_parse.specs.Items.{a_tail, among, one_of, sort}
 use Rattle.std.proofs.Common.{[], ◌∷◌}
-use Rattle.fx_parse.proofs.Sorts.{not_tail}
+use Rattle.fx_parse.proofs.sorts.Sorts.{not_tail}
 use Rattle.fx_parse.proofs.predicates.is_tail.Goals as goal
 
 pub returns-in-Tail : goal.returns-in-Tail

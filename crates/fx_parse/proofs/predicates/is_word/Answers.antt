@@ -1,6 +1,6 @@
 use Rattle.std.proofs.Common.{◌∙◌}
 use Rattle.fx_parse.specs.Items.{one_of}
-use Rattle.fx_parse.proofs.Sorts.{word_same, not_word}
+use Rattle.fx_parse.proofs.sorts.Sorts.{word_same, not_word}
 use Rattle.fx_parse.proofs.predicates.is_word.Goals as goal
 
 pub returns-in-Word : goal.returns-in-Word

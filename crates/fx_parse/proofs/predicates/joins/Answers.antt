@@ -1,7 +1,7 @@
 use Rattle.std.proofs.Common.{refl, sym, ap, ◌∙◌}
 use Rattle.fx_parse.specs.Items.{among, one_of, sort}
 use Rattle.fx_parse.specs.Grammar.{joining}
-use Rattle.fx_parse.proofs.Sorts.{not_sign}
+use Rattle.fx_parse.proofs.sorts.Sorts.{not_sign}
 use Rattle.fx_parse.proofs.predicates.joins.Goals as goal
 
 pub returns-in-Symbol : goal.returns-in-Symbol

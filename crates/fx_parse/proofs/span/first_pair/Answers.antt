@@ -1,4 +1,4 @@
-use Rattle.fx_parse.proofs.SpanLemmas.{cut_by, shorter_by}
+use Rattle.fx_parse.proofs.tokens.SpanLemmas.{cut_by, shorter_by}
 use Rattle.fx_parse.proofs.span.first_pair.Goals as goal
 
 pub returns-clause-pair : goal.returns-clause-pair

@@ -2,7 +2,7 @@ use Rattle.std.proofs.Common.{◌≡◌, ◌<◌, pos, length, FitsSigned, ap, �
 use Rattle.std.specs.Int.{w64}
 use Rattle.std.proofs.lemmas.Bool.Decides.{nat_tests}
 use Rattle.std.proofs.lemmas.Int.{ints, to_z-of_z}
-use Rattle.fx_parse.proofs.SpanLemmas.{ahead_step, ahead_end}
+use Rattle.fx_parse.proofs.tokens.SpanLemmas.{ahead_step, ahead_end}
 use Rattle.fx_parse.proofs.span.span_of.Goals as goal
 
 pub loop-rest-preserved : goal.loop-rest-preserved

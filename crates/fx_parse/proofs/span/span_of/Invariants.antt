@@ -1,6 +1,6 @@
 use Rattle.std.proofs.Common.{ℕ, length}
 use Rattle.fx_scan.specs.Forms.{IsSpan}
-use Rattle.fx_parse.proofs.SpanLemmas.{IsAhead}
+use Rattle.fx_parse.proofs.tokens.SpanLemmas.{IsAhead}
 use Rattle.fx_parse.proofs.span.span_of.Given as goal
 
 abbrev pub invariant-loop-rest : goal.invariant-loop-rest

@@ -1,9 +1,9 @@
 use Rattle.std.proofs.Common.{suc, length, ◌+◌, ◌-◌, Err, rules, sym, ◌∙◌, subst, arith}
 use Rattle.std.proofs.lemmas.Grind.{common_steps}
-use Rattle.fx_parse.specs.Ahead.{parts_before}
+use Rattle.fx_ast.specs.Lists.{parts_before}
 use Rattle.fx_parse.specs.ReadPrimary.{read_holes}
 use Rattle.fx_parse.specs.Views.{parts}
-use Rattle.fx_parse.proofs.ListTurns.{one_more, no_more, holes_last, holes_next, holes_fail}
+use Rattle.fx_parse.proofs.turns.ListTurns.{one_more, no_more, holes_last, holes_next, holes_fail}
 use Rattle.fx_parse.specs.ReadExprs.{read_expr}
 use Rattle.fx_parse.specs.Readings.{mapped}
 use Rattle.fx_parse.specs.Cursor.{Gives}

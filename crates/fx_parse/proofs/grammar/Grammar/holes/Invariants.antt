@@ -1,5 +1,5 @@
 use Rattle.std.proofs.Common.{◌≡◌, ◌-◌, length}
-use Rattle.fx_parse.specs.Ahead.{parts_before}
+use Rattle.fx_ast.specs.Lists.{parts_before}
 use Rattle.fx_parse.specs.ReadExprs.{read_expr}
 use Rattle.fx_parse.specs.ReadPrimary.{read_holes}
 use Rattle.fx_parse.specs.Readings.{mapped}

@@ -3,9 +3,9 @@ use Rattle.fx_ast.specs.Shape.{statement_tree}
 use Rattle.fx_parse.specs.Cursor.{Gives}
 use Rattle.fx_parse.specs.Opening.{statement_trees, imports_after}
 use Rattle.fx_parse.specs.ReadExprs.{read_expr}
-use Rattle.fx_parse.proofs.GatherLaws.{fails_as}
-use Rattle.fx_parse.proofs.ListTurns.{one_more, no_more}
-use Rattle.fx_parse.proofs.StatementLaws.{imports_none, imports_end, imports_bad, imports_next}
+use Rattle.fx_parse.proofs.turns.GatherLaws.{fails_as}
+use Rattle.fx_parse.proofs.turns.ListTurns.{one_more, no_more}
+use Rattle.fx_parse.proofs.turns.StatementLaws.{imports_none, imports_end, imports_bad, imports_next}
 use Rattle.fx_parse.proofs.grammar.Grammar.imports.Goals as goal
 
 pub returns-then-not-sees_word : goal.returns-then-not-sees_word

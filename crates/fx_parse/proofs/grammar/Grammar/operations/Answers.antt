@@ -4,9 +4,9 @@ use Rattle.fx_parse.specs.declared.lists.LinkList.{LinkList}
 use Rattle.fx_parse.specs.Operations.{operand_of, operation, operation_view}
 use Rattle.fx_parse.specs.Readings.{links, mapped}
 use Rattle.fx_parse.specs.ReadRuns.{operator_run}
-use Rattle.fx_parse.proofs.GatherLaws.{fails_as}
-use Rattle.fx_parse.proofs.ListTurns.{one_more, no_more}
-use Rattle.fx_parse.proofs.RunTurns.{run_end, run_bad, run_next, run_none, pushed_link}
+use Rattle.fx_parse.proofs.turns.GatherLaws.{fails_as}
+use Rattle.fx_parse.proofs.turns.ListTurns.{one_more, no_more}
+use Rattle.fx_parse.proofs.turns.RunTurns.{run_end, run_bad, run_next, run_none, pushed_link}
 use Rattle.fx_parse.proofs.grammar.Grammar.operations.Goals as goal
 
 pub returns-then-not-sees_operator : goal.returns-then-not-sees_operator

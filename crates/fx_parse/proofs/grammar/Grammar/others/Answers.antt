@@ -1,9 +1,9 @@
 use Rattle.std.proofs.Common.{suc, ◌+◌, ◌-◌, Err, rules, sym, ◌∙◌, subst, arith}
 use Rattle.std.proofs.lemmas.Grind.{common_steps}
-use Rattle.fx_parse.specs.Ahead.{props_before}
+use Rattle.fx_ast.specs.Lists.{props_before}
 use Rattle.fx_parse.specs.ReadProps.{read_props}
 use Rattle.fx_parse.specs.Views.{group, props}
-use Rattle.fx_parse.proofs.ListTurns.{one_more, no_more, props_closed, props_last, props_next, props_fail}
+use Rattle.fx_parse.proofs.turns.ListTurns.{one_more, no_more, props_closed, props_last, props_next, props_fail}
 use Rattle.fx_parse.specs.ReadExprs.{read_expr}
 use Rattle.fx_parse.specs.Readings.{mapped}
 use Rattle.fx_parse.specs.Cursor.{Gives}

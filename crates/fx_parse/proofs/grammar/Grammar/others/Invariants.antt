@@ -1,5 +1,5 @@
 use Rattle.std.proofs.Common.{◌≡◌, ◌-◌}
-use Rattle.fx_parse.specs.Ahead.{props_before}
+use Rattle.fx_ast.specs.Lists.{props_before}
 use Rattle.fx_parse.specs.ReadExprs.{read_expr}
 use Rattle.fx_parse.specs.ReadProps.{read_props}
 use Rattle.fx_parse.specs.Readings.{mapped}

@@ -4,7 +4,7 @@ use Rattle.fx_parse.specs.declared.lists.ParamList.{ParamList}
 use Rattle.fx_parse.specs.Gathering.{params_from}
 use Rattle.fx_parse.specs.ReadExprs.{read_expr}
 use Rattle.fx_parse.specs.ReadFunctions.{read_params}
-use Rattle.fx_parse.proofs.GatherTies.{gives_mapped, params_read}
+use Rattle.fx_parse.proofs.turns.GatherTies.{gives_mapped, params_read}
 use Rattle.fx_parse.proofs.grammar.Grammar.params.Goals as goal
 
 pub returns : goal.returns

@@ -4,8 +4,8 @@ use Rattle.fx_parse.specs.declared.lists.ParamList.{ParamList}
 use Rattle.fx_parse.specs.Gathering.{param_view, params_from}
 use Rattle.fx_parse.specs.ReadExprs.{read_expr}
 use Rattle.fx_parse.specs.Readings.{Got}
-use Rattle.fx_parse.proofs.GatherLaws.{fails_as, params_end, params_next, params_last, params_bad, params_none, pushed_param}
-use Rattle.fx_parse.proofs.ListTurns.{one_more, no_more}
+use Rattle.fx_parse.proofs.turns.GatherLaws.{fails_as, params_end, params_next, params_last, params_bad, params_none, pushed_param}
+use Rattle.fx_parse.proofs.turns.ListTurns.{one_more, no_more}
 use Rattle.fx_parse.proofs.grammar.Grammar.params_found.Goals as goal
 
 pub returns-then-sees_symbol : goal.returns-then-sees_symbol

@@ -4,7 +4,7 @@ use Rattle.fx_parse.specs.Grammar.{properties}
 use Rattle.fx_parse.specs.ReadExprs.{read_expr}
 use Rattle.fx_parse.specs.ReadProps.{read_props}
 use Rattle.fx_parse.specs.Views.{props}
-use Rattle.fx_parse.proofs.SomeProps.{some_more}
+use Rattle.fx_parse.proofs.turns.SomeProps.{some_more}
 use Rattle.fx_parse.proofs.grammar.Grammar.some_props.Goals as goal
 
 pub returns : goal.returns

@@ -2,9 +2,9 @@ use Rattle.std.proofs.Common.{◌≡◌, ◌-◌, ◌+◌, Err, sym, ◌∙◌, 
 use Rattle.fx_ast.specs.Shape.{statement_tree}
 use Rattle.fx_parse.specs.Opening.{statement_trees, statements_after}
 use Rattle.fx_parse.specs.ReadExprs.{read_expr}
-use Rattle.fx_parse.proofs.GatherLaws.{fails_as}
-use Rattle.fx_parse.proofs.ListTurns.{one_more, no_more}
-use Rattle.fx_parse.proofs.StatementLaws.{statements_done, statements_none, statements_bad, statements_next}
+use Rattle.fx_parse.proofs.turns.GatherLaws.{fails_as}
+use Rattle.fx_parse.proofs.turns.ListTurns.{one_more, no_more}
+use Rattle.fx_parse.proofs.turns.StatementLaws.{statements_done, statements_none, statements_bad, statements_next}
 use Rattle.fx_parse.proofs.grammar.Grammar.statements.Goals as goal
 
 pub returns-then-ends : goal.returns-then-ends

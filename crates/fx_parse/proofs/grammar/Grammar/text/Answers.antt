@@ -5,7 +5,7 @@ use Rattle.fx_parse.specs.ReadExprs.{read_expr}
 use Rattle.fx_parse.specs.ReadPrimary.{read_text}
 use Rattle.fx_parse.specs.Readings.{Got}
 use Rattle.fx_parse.specs.Views.{parts}
-use Rattle.fx_parse.proofs.TextLaws.{holed, text_read}
+use Rattle.fx_parse.proofs.turns.TextLaws.{holed, text_read}
 use Rattle.fx_parse.proofs.grammar.Grammar.text.Goals as goal
 
 pub text-requires : goal.text-requires

@@ -1,0 +1,24 @@
+-- Each reading reads the phrases of its line of the grammar, and refuses where none goes on.
+pub mod Arrays
+pub mod Beginnings
+pub mod Both
+pub mod Choices
+pub mod Far
+pub mod Functions
+pub mod Knot
+pub mod Layers
+pub mod Linking
+pub mod Postfixes
+pub mod Primaries
+pub mod Props
+pub mod Records
+pub mod Runs
+pub mod Says
+pub mod Scripts
+pub mod Shortest
+pub mod Statements
+pub mod Stops
+pub mod Suffixes
+pub mod Texts
+pub mod Then
+pub mod Wholes
