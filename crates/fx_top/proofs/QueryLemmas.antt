@@ -174,15 +174,21 @@ first_expr : Tree → List StatementTree → Tree
 first_expr other [] = other
 first_expr other (s ∷ ss) = form_expr other s.form
 
-same_shown : (a b : Tree) → shown a ≡ shown b → a ≡ b
+pub same_shown : (a b : Tree) → shown a ≡ shown b → a ≡ b
 unfolding first_expr form_expr
 same_shown a b h = ap (λ (t : ScriptTree). first_expr a t.statements) h
 
-same_sides : (a b c d : Tree) → piped a b ≡ piped c d → (a ≡ c) × (b ≡ d)
+pub same_sides : (a b c d : Tree) → piped a b ≡ piped c d → (a ≡ c) × (b ≡ d)
 same_sides a b c d h = (cc, cc)
 
-same_args : (x : List ℕ) (ps qs : Props) → called x ps ≡ called x qs → ps ≡ qs
+pub same_args : (x : List ℕ) (ps qs : Props) → called x ps ≡ called x qs → ps ≡ qs
 same_args x ps qs h = cc
+
+pub same_text_arg : (label value other : List ℕ) → text_arg label value ≡ text_arg label other → value ≡ other
+same_text_arg label value other h = cc
+
+pub same_time_args : (a b : List ℕ) (start stop other last : ℤ) → time_args a start b stop ≡ time_args a other b last → (start ≡ other) × (stop ≡ last)
+same_time_args a b start stop other last h = (cc, cc)
 
 abbrev pub from_args : Query → Props
 from_args q = text_arg (codes "bucket") q.bucket

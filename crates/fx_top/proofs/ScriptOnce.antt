@@ -1,14 +1,15 @@
 -- A script is read in one way.
-use Rattle.std.proofs.Common.{◌≡◌, ℕ, Bool, inl, inr, List, length, sym, ◌∙◌, subst}
+use Rattle.std.proofs.Common.{◌≡◌, ℕ, Bool, inl, inr, List, length, codes, sym, ◌∙◌, subst}
 use Rattle.std.specs.Str.{IsUtf8, IsValidUpTo}
 use Rattle.std.proofs.Math.Seq.{take-length}
 use Rattle.std.proofs.lemmas.Str.{utf8_valid_len-IsValidUpTo}
-use Rattle.fx_ast.specs.Tree.{ScriptTree}
+use Rattle.fx_ast.specs.Tree.{Tree, ScriptTree}
 use Rattle.fx_scan.proofs.OneList.{one_list, no_list, one_place}
 use Rattle.fx_parse.specs.Parsed.{IsParsed, IsUnparsed}
 use Rattle.fx_parse.proofs.outcome.Once.{tree_once, refused_once, parsed_or_refused}
 use Rattle.fx_top.specs.declared.query.Query.{Query}
-use Rattle.fx_top.specs.Query.{query_tree, IsQuery}
+use Rattle.fx_top.specs.Query.{piped, called, query_tree, IsQuery}
+use Rattle.fx_top.proofs.QueryLemmas.{same_shown, same_sides, same_args, same_text_arg, same_time_args, from_args, range_args}
 use Rattle.fx_top.specs.Syntax.{HasTree, HasNoTree, IsSyntax, IsScript, IsNotBuilt}
 
 -- ---- its tree
@@ -47,17 +48,24 @@ syntax_or_tree script at deep tree (inr (inr g)) h =
 
 -- ---- its query
 
-same_query_of_tree : (q r : Query) → query_tree q ≡ query_tree r → q.place ≡ r.place → q ≡ r
-same_query_of_tree q r e place =
-    let bucket : q.bucket ≡ r.bucket = cc e in
-    let start : q.start ≡ r.start = cc e in
-    let stop : q.stop ≡ r.stop = cc e in
-    λ i. record { place = place i; bucket = bucket i; start = start i; stop = stop i }
+-- the two calls of a query
+abbrev from_call : Query → Tree
+from_call q = called (codes "from") (from_args q)
+
+abbrev range_call : Query → Tree
+range_call q = called (codes "range") (range_args q)
+
+same_query_tree : (q r : Query) → query_tree q ≡ query_tree r → q.place ≡ r.place → q ≡ r
+same_query_tree q r e place =
+    let sides = same_sides (from_call q) (range_call q) (from_call r) (range_call r) (same_shown (piped (from_call q) (range_call q)) (piped (from_call r) (range_call r)) e) in
+    let bucket = same_text_arg (codes "bucket") q.bucket r.bucket (same_args (codes "from") (from_args q) (from_args r) sides.0) in
+    let times = same_time_args (codes "start") (codes "stop") q.start q.stop r.start r.stop (same_args (codes "range") (range_args q) (range_args r) sides.1) in
+    λ i. record { place = place i; bucket = bucket i; start = times.0 i; stop = times.1 i }
 
 same_query : (tree : ScriptTree) (q r : Query) → IsQuery tree q → IsQuery tree r → q ≡ r
 same_query tree q r g h =
     let place : q.place ≡ r.place = cc (g.begin, h.begin) in
-    same_query_of_tree q r (sym g.same ∙ h.same) place
+    same_query_tree q r (sym g.same ∙ h.same) place
 
 pub same_script : (script : List ℕ) (q r : Query) → IsScript script q → IsScript script r → q ≡ r
 same_script script q r g h = same_query h.tree q r (subst (λ t. IsQuery t q) (same_tree script g.tree h.tree g.has_tree h.has_tree) g.query) h.query
