@@ -8,9 +8,10 @@ mod host_sink;
 
 use crate::host_files::HostFiles;
 use crate::host_sink::HostSink;
-use fx_base::{Steps, Text};
-use fx_top::{Outcome, flux_main};
+use fx_base::{Memory, Steps, Text};
+use fx_top::{Outcome, flux_main, tell};
 use std::env;
+use std::io::ErrorKind;
 use std::marker::Brand;
 use std::process::ExitCode;
 use std::rt::Clock;
@@ -18,18 +19,30 @@ use std::sync::ledger::{Blank, Ledger};
 use std::time::{SystemTime, UNIX_EPOCH};
 
 fn main(rt: HostRuntime) -> ExitCode {
-    let words = words(&rt).unwrap_or(Vec::new(rt.alloc()));
-    let outcome = run::<Brand>(&rt, words.as_slice(), Blank::new(1));
+    let outcome = match words(&rt) {
+        Ok(words) => run::<Brand>(&rt, words.as_slice(), Blank::new(1)),
+        Err(Memory) => {
+            let mut err = HostSink::new(rt.stderr());
+            tell(rt.alloc(), Outcome::Memory, b"", &mut err)
+        }
+    };
     ExitCode::from(outcome.status())
 }
 
-/// The words behind the program's name, or None where they cannot be had as texts.
-fn words(rt: &HostRuntime) -> Option<Vec<Text>> {
+/// The words behind the program's name; none where one of them is no text, so that they are the
+/// form of no command.
+fn words(rt: &HostRuntime) -> Result<Vec<Text>, Memory> {
     let mut words = Vec::new(rt.alloc());
-    for word in env::args(rt).ok()?.skip(1) {
-        words.push(Text::of(rt.alloc(), word.as_str()).ok()?).ok()?;
+    match env::args(rt) {
+        Ok(args) => {
+            for word in args.skip(1) {
+                words.push(Text::of(rt.alloc(), word.as_str())?)?;
+            }
+        }
+        Err(error) if error.kind() == ErrorKind::OutOfMemory => return Err(Memory),
+        Err(_) => {}
     }
-    Some(words)
+    Ok(words)
 }
 
 /// The clock's moment in nanoseconds since 1970-01-01T00:00:00Z, or 0 where it gives none that fits.

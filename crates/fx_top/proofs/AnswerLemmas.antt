@@ -155,18 +155,18 @@ ends_causes c q file old new files files' out out' (outcome.TooLong name taken) 
 ends_causes c q file old new files files' out out' outcome.NotBuilt h same causes = absurd h
 ends_causes c q file old new files files' out out' (outcome.Syntax place deep) h same causes = absurd h
 
-pub ends_names : (words : List (List ℕ)) (c : Command) (q : Query) (file : List ℕ) (old new : Option (List ℕ)) (o : Outcome) → EndsAs c q file old new o → NamesFile words o
-ends_names words c q file old new outcome.Done h = tt
-ends_names words c q file old new (outcome.Line name number cause) h = tt
-ends_names words c q file old new (outcome.TooMany name number) h = tt
-ends_names words c q file old new (outcome.Fault fault) h = tt
-ends_names words c q file old new outcome.SinkFault h = tt
-ends_names words c q file old new outcome.Memory h = tt
-ends_names words c q file old new outcome.Usage h = absurd h
-ends_names words c q file old new (outcome.FileFault name) h = absurd h
-ends_names words c q file old new (outcome.TooLong name taken) h = absurd h
-ends_names words c q file old new outcome.NotBuilt h = absurd h
-ends_names words c q file old new (outcome.Syntax place deep) h = absurd h
+pub ends_names : (words : List (List ℕ)) (c : Command) (q : Query) (file : List ℕ) (old new : Option (List ℕ)) (o : Outcome) → IsCommand words c → EndsAs c q file old new o → NamesFile words o
+ends_names words c q file old new outcome.Done is h = tt
+ends_names words c q file old new (outcome.Line name number cause) is h = (c, is, h.4)
+ends_names words c q file old new (outcome.TooMany name number) is h = (c, is, h.4)
+ends_names words c q file old new (outcome.Fault fault) is h = tt
+ends_names words c q file old new outcome.SinkFault is h = tt
+ends_names words c q file old new outcome.Memory is h = tt
+ends_names words c q file old new outcome.Usage is h = absurd h
+ends_names words c q file old new (outcome.FileFault name) is h = absurd h
+ends_names words c q file old new (outcome.TooLong name taken) is h = absurd h
+ends_names words c q file old new outcome.NotBuilt is h = absurd h
+ends_names words c q file old new (outcome.Syntax place deep) is h = absurd h
 
 -- ---- a load that is refused as an answer of the whole
 
@@ -185,7 +185,7 @@ file_answers told words name limit old outcome.SinkFault at h = absurd h
 
 pub file_causes : (name : List ℕ) (limit files files' out : ℕ) (o : Outcome) → FileCauses name limit files files' (Err o) → Causes files files' out out o
 file_causes name limit files files' out (outcome.FileFault n) h = (h.0, refl)
-file_causes name limit files files' out (outcome.TooLong n taken) h = (h, refl)
+file_causes name limit files files' out (outcome.TooLong n taken) h = (h.0, refl)
 file_causes name limit files files' out outcome.Memory h = tt
 file_causes name limit files files' out outcome.Done h = absurd h
 file_causes name limit files files' out outcome.Usage h = absurd h
@@ -211,16 +211,16 @@ file_writes name limit files files' old outcome.SinkFault h = absurd h
 
 pub file_names : (words : List (List ℕ)) (c : Command) (name : List ℕ) (limit files files' : ℕ) (o : Outcome) → IsCommand words c → ((name ≡ c.script) ⊎ (name ≡ c.file)) → FileCauses name limit files files' (Err o) → NamesFile words o
 file_names words c name limit files files' (outcome.FileFault n) is named h = (c, is, subst (λ m. (m ≡ c.script) ⊎ (m ≡ c.file)) (sym h.1) named)
-file_names words c name limit files files' (outcome.TooLong n taken) is named h = tt
+file_names words c name limit files files' (outcome.TooLong n taken) is named h = (c, is, subst (λ m. (m ≡ c.script) ⊎ (m ≡ c.file)) (sym h.1) named)
 file_names words c name limit files files' outcome.Memory is named h = tt
-file_names words c name limit files files' outcome.Done is named h = tt
-file_names words c name limit files files' outcome.Usage is named h = tt
-file_names words c name limit files files' outcome.NotBuilt is named h = tt
-file_names words c name limit files files' (outcome.Syntax place deep) is named h = tt
-file_names words c name limit files files' (outcome.Line n number cause) is named h = tt
-file_names words c name limit files files' (outcome.TooMany n number) is named h = tt
-file_names words c name limit files files' (outcome.Fault fault) is named h = tt
-file_names words c name limit files files' outcome.SinkFault is named h = tt
+file_names words c name limit files files' outcome.Done is named h = absurd h
+file_names words c name limit files files' outcome.Usage is named h = absurd h
+file_names words c name limit files files' outcome.NotBuilt is named h = absurd h
+file_names words c name limit files files' (outcome.Syntax place deep) is named h = absurd h
+file_names words c name limit files files' (outcome.Line n number cause) is named h = absurd h
+file_names words c name limit files files' (outcome.TooMany n number) is named h = absurd h
+file_names words c name limit files files' (outcome.Fault fault) is named h = absurd h
+file_names words c name limit files files' outcome.SinkFault is named h = absurd h
 
 -- what memory gives up at any moment
 pub memory_writes : (old : Option (List ℕ)) → Writes old old outcome.Memory

@@ -30,9 +30,11 @@ use Rattle.fx_data.proofs.GatheredRows.{EachRow, gathered_rows}
 use Rattle.fx_line.specs.declared.point.Point.{Point}
 use Rattle.fx_line.specs.declared.point.SeriesKey.{SeriesKey}
 use Rattle.fx_line.specs.declared.point.Tag.{Tag}
-use Rattle.fx_line.specs.Stored.{StoredPoint, Series, SeriesId, series_of, points_of, kind_of_points, first_seen, id_of}
-use Rattle.fx_series.specs.Read.{is_in, same_kind as is_kind}
-use Rattle.fx_series.specs.Store.{Kept, StandsFor, AreOfOneKind}
+use Rattle.fx_line.specs.Stored.{StoredPoint, Series, first_seen, id_of}
+use Rattle.fx_series.specs.Read.{is_in}
+use Rattle.fx_series.specs.Store.{Kept, StandsFor}
+use Rattle.fx_series.proofs.Same.{kind_decides}
+use Rattle.fx_series.proofs.ValueKinds.{AreOfKind, IsOfItsKind, series-of_kind}
 use Rattle.fx_csv.specs.Cells.{is_one_kind, same_kind}
 use Rattle.fx_csv.specs.Printed.{HasOneKind, pinned_value, value_at}
 use Rattle.fx_top.specs.declared.query.Query.{Query}
@@ -152,42 +154,7 @@ row_kind label columns h time v int head is =
     (h label)
     (λ g. key_value-is label (fin.entries head) (subst IsShared (fin.get-entries head label) g) ∙ ap shared_value (sym (fin.get-entries head label)))
 
--- ---- the values of a series
-
-abbrev AreOfKind : Option Kind → List (ℤ × Scalar) → Type 0
-AreOfKind o = AllByRecursion (λ v. kind_of v.1 ≡ o)
-
-insert-of_kind : (o : Option Kind) (values : List (ℤ × Scalar)) (time : ℤ) (value : Scalar) → kind_of value ≡ o → AreOfKind o values → AreOfKind o (insert_entry int_cmp values time value)
-insert-of_kind o [] time value g h = (g, tt)
-insert-of_kind o (v ∷ values) time value g h =
-    elim (int_cmp time v.0) as (λ c. AreOfKind o (match_ordering c ((time, value) ∷ v ∷ values) ((v.0, value) ∷ values) (v ∷ insert_entry int_cmp values time value))) [
-      | Less ↦ (g, h)
-      | Equal ↦ (g, h.1)
-      | Greater ↦ (h.0, insert-of_kind o values time value g h.1)
-    ]
-
-fold-of_kind : (o : Option Kind) (values : List (ℤ × Scalar)) (points : List Point) → AllByRecursion (λ p. kind_of p.value ≡ o) points → AreOfKind o values
-    → AreOfKind o (fold (λ entries p. insert_entry int_cmp entries p.time p.value) values points)
-fold-of_kind o values [] g h = h
-fold-of_kind o values (p ∷ points) g h =
-    fold-of_kind o (insert_entry int_cmp values p.time p.value) points g.1 (insert-of_kind o values p.time p.value g.0 h)
-
-abbrev IsOfItsKind : Series → Type 0
-IsOfItsKind s = AreOfKind s.kind s.values
-
-series_kinds : (stored : List StoredPoint) → AreOfOneKind stored → (ids : List SeriesId) → AllByRecursion IsOfItsKind (map (series_of stored) ids)
-series_kinds stored h [] = tt
-series_kinds stored h (id ∷ ids) =
-    (fold-of_kind (kind_of_points (points_of id stored)) [] (points_of id stored) (recursion_from_All (λ p. kind_of p.value ≡ kind_of_points (points_of id stored)) (points_of id stored) (h id)) tt, series_kinds stored h ids)
-
 -- ---- the rows of the tables
-
-is_int : (o : Option Kind) → is_kind o kind.Int ≡ true → o ≡ Some kind.Int
-is_int None h = cc
-is_int (Some kind.Bool) h = cc
-is_int (Some kind.Int) h = refl
-is_int (Some kind.Text) h = cc
-is_int (Some kind.Time) h = cc
 
 second_so : (a b : Bool) → (a && b) ≡ true → b ≡ true
 second_so true b h = h
@@ -205,7 +172,7 @@ module _ (q : Query) (label : List ℕ) where
       ]
 
   table_kinds : (s : Series) → is_in q.bucket kind.Int s ≡ true → IsOfItsKind s → EachRow (HasKindAt label) (table_of q s)
-  table_kinds s in' h = rows_kinds s.id.key s.values (subst (λ (o : Option Kind). AreOfKind o s.values) (is_int s.kind (second_so _ _ in')) h)
+  table_kinds s in' h = rows_kinds s.id.key s.values (subst (λ (o : Option Kind). AreOfKind o s.values) ((kind_decides s.id.kind (Some kind.Int)).0 (second_so _ _ in')) h)
 
   with_rows_kinds : (ts : List Table) → AllByRecursion (EachRow (HasKindAt label)) ts → AllByRecursion (EachRow (HasKindAt label)) (filter has_rows ts)
   with_rows_kinds [] h = tt
@@ -255,7 +222,7 @@ module _ {X : Type 0} (f : X → Scalar) where
 -- each table of a run over a store has one kind in each column
 pub one_kind : (q : Query) (kept : Kept) (buckets : List (List ℕ)) (stored : List StoredPoint) → StandsFor kept buckets stored → All HasOneKind (tables_of q kept.series)
 one_kind q kept buckets stored h = λ i d below label.
-    let series : AllByRecursion IsOfItsKind kept.series = subst (AllByRecursion IsOfItsKind) (sym h.series_are) (series_kinds stored h.one_kind (first_seen (map id_of stored))) in
+    let series : AllByRecursion IsOfItsKind kept.series = subst (AllByRecursion IsOfItsKind) (sym h.series_are) (series-of_kind stored (first_seen (map id_of stored))) in
     let table = slice_index_or (tables_of q kept.series) i d in
     one_kind_of (value_at table label) (kind_for label table.key.entries) table.rows
     (All-from_recursion (EachRow (HasKindAt label)) (tables_of q kept.series) (run_kinds q label kept.series series) i d below)

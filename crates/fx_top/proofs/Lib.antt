@@ -1,7 +1,11 @@
 pub mod BytesLemmas
 pub mod ColumnKinds
 pub mod CommandLemmas
+pub mod FileOnce
 pub mod LoadLemmas
+pub mod LoadOnce
 pub mod QueryLemmas
+pub mod ScriptOnce
 pub mod SourceLemmas
 pub mod AnswerLemmas
+pub mod AnswerOnce

@@ -16,7 +16,7 @@ pub line_of_point : (buckets : List (List ℕ)) (bucket line : List ℕ) (p : Po
 line_of_point buckets bucket line p before kept (Ok _) given h =
     (before ++ record { bucket = bucket; point = p } ∷ [], record { points = p ∷ []; given = given; fit = (h.0, tt); stored = refl; few = rw length-append (omega (arith, h.2)) }, h.1)
 line_of_point buckets bucket line p before kept (Err (line_stop.Refused (cause.Form error))) given h = absurd h
-line_of_point buckets bucket line p before kept (Err (line_stop.Refused (cause.KindConflict old new))) given h = ([], p, [], given, tt, rw append-nil h)
+line_of_point buckets bucket line p before kept (Err (line_stop.Refused (cause.KindConflict old new))) given h = ([], p, [], given, tt, omega (arith, h.0), rw append-nil h.1)
 line_of_point buckets bucket line p before kept (Err line_stop.TooMany) given h = ([], p, [], given, tt, omega (arith, h))
 line_of_point buckets bucket line p before kept (Err line_stop.Memory) given h = tt
 

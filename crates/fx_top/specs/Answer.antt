@@ -107,10 +107,27 @@ Causes files files' out out' outcome.SinkFault = (files' ≡ files) × Rose out 
 Causes files files' out out' outcome.Memory = Unit {0}
 Causes files files' out out' o = (files' ≡ files) × (out' ≡ out)
 
--- the file of a fault of the files is one that the words name
+-- a file that the words name, and one that they name as data
+abbrev pub IsFile : List (List ℕ) → List ℕ → Type 0
+IsFile words name = (c : Command) × IsCommand words c × ((name ≡ c.script) ⊎ (name ≡ c.file))
+
+abbrev pub IsDataFile : List (List ℕ) → List ℕ → Type 0
+IsDataFile words name = (c : Command) × IsCommand words c × (name ≡ c.file)
+
+-- the file that an answer shows is one that the words name, whatever the files tell
 abbrev pub NamesFile : List (List ℕ) → Outcome → Type 0
-NamesFile words (outcome.FileFault name) = (c : Command) × IsCommand words c × ((name ≡ c.script) ⊎ (name ≡ c.file))
+NamesFile words (outcome.FileFault name) = IsFile words name
+NamesFile words (outcome.TooLong name taken) = IsFile words name
+NamesFile words (outcome.Line name number cause) = IsDataFile words name
+NamesFile words (outcome.TooMany name number) = IsDataFile words name
 NamesFile words o = Unit {0}
+
+-- an answer that the words and the files' content alone settle: no device failed, and memory was had
+abbrev pub IsSettled : Outcome → Type 0
+IsSettled outcome.Memory = ⊥
+IsSettled outcome.SinkFault = ⊥
+IsSettled (outcome.FileFault name) = ⊥
+IsSettled o = Unit {0}
 
 -- the script whose place the outcome's line shows is the command's
 abbrev pub Shows : Told → List (List ℕ) → Outcome → List ℕ → Type 0

@@ -26,7 +26,7 @@ pub record IsReady (kept : Kept) (bucket : List ℕ) : Type 0 where
 abbrev pub in_bucket : List ℕ → List Point → List StoredPoint
 in_bucket bucket points = map (λ p. record { bucket = bucket; point = p }) points
 
--- each of the points is of the kind of its series, which those before it count to
+-- each of the points is of the kind of the points of its name before it
 abbrev pub Fit : List StoredPoint → List ℕ → List Point → Type 0
 Fit stored bucket [] = Unit {0}
 Fit stored bucket (p ∷ rest) = Agrees stored (record { bucket = bucket; point = p }) × Fit (stored ++ record { bucket = bucket; point = p } ∷ []) bucket rest
@@ -44,10 +44,11 @@ abbrev pub Reads : List ℕ → List (List ℕ) → List StoredPoint → List St
 Reads bucket [] before after = before ≡ after
 Reads bucket (line ∷ lines) before after = (middle : List StoredPoint) × Takes bucket line before middle × Reads bucket lines middle after
 
--- why a line stops a load over these stored points: it is refused, or one of its points is of another kind than its series
+-- why a line stops a load over these stored points: it is refused, or there is room for one of its points that is of another
+-- kind than an earlier point of its name
 abbrev pub IsCause : List ℕ → List ℕ → List StoredPoint → LineCause → Type 0
 IsCause bucket line stored (cause.Form error) = IsRefused line error
-IsCause bucket line stored (cause.KindConflict old new) = (fitting : List Point) × (p : Point) × (rest : List Point) × Gives line (fitting ++ p ∷ rest) × Fit stored bucket fitting
+IsCause bucket line stored (cause.KindConflict old new) = (fitting : List Point) × (p : Point) × (rest : List Point) × Gives line (fitting ++ p ∷ rest) × Fit stored bucket fitting × (length stored + length fitting < MOST_POINTS)
     × ((number : ℕ) × Conflicts (stored ++ in_bucket bucket fitting) (record { bucket = bucket; point = p }) number old new)
 
 -- a line holds a point when as many are stored as may be
@@ -66,7 +67,7 @@ pub record StopsAt (bucket file : List ℕ) (before : List StoredPoint) (number 
 abbrev pub PointLoads : List (List ℕ) → List ℕ → Point → List StoredPoint → Kept → Result (Unit {0}) LineStop → Type 0
 PointLoads buckets bucket p before kept (Ok _) = Agrees before (record { bucket = bucket; point = p }) × StandsFor kept buckets (before ++ record { bucket = bucket; point = p } ∷ []) × (length before < MOST_POINTS)
 PointLoads buckets bucket p before kept (Err (line_stop.Refused (cause.Form error))) = ⊥
-PointLoads buckets bucket p before kept (Err (line_stop.Refused (cause.KindConflict old new))) = (number : ℕ) × Conflicts before (record { bucket = bucket; point = p }) number old new
+PointLoads buckets bucket p before kept (Err (line_stop.Refused (cause.KindConflict old new))) = (length before < MOST_POINTS) × ((number : ℕ) × Conflicts before (record { bucket = bucket; point = p }) number old new)
 PointLoads buckets bucket p before kept (Err line_stop.TooMany) = length before ≡ MOST_POINTS
 PointLoads buckets bucket p before kept (Err line_stop.Memory) = Unit {0}
 

@@ -26,7 +26,7 @@ FileAnswers told name limit (Err o) = ⊥
 abbrev pub FileCauses : List ℕ → ℕ → ℕ → ℕ → Result (Vec ℕ Global) Outcome → Type 0
 FileCauses name limit files files' (Ok bytes) = (files' ≡ files) × (length bytes.items ≤ limit)
 FileCauses name limit files files' (Err (outcome.FileFault n)) = Rose files files' × (n ≡ name)
-FileCauses name limit files files' (Err (outcome.TooLong n taken)) = files' ≡ files
+FileCauses name limit files files' (Err (outcome.TooLong n taken)) = (files' ≡ files) × (n ≡ name)
 FileCauses name limit files files' (Err outcome.Memory) = Unit {0}
 FileCauses name limit files files' (Err o) = ⊥
 

@@ -5,6 +5,7 @@ mod bytes;
 mod cause;
 mod command;
 mod labels;
+mod laws;
 mod load;
 mod main_call;
 mod message;
@@ -18,6 +19,8 @@ mod source;
 
 pub use cause::LineCause;
 pub use command::Command;
+pub use laws::answers_exclude_each_other;
 pub use main_call::flux_main;
+pub use message::tell;
 pub use outcome::Outcome;
 pub use query::Query;

@@ -1,6 +1,6 @@
-ghost use Rattle.std.specs.Prelude.{◌≡◌, ℕ, ◌≤◌, ◌<◌, ◌+◌, ◌∷◌, List, true, length};
+ghost use Rattle.std.specs.Prelude.{◌≡◌, ℕ, ◌≤◌, ◌<◌, ◌+◌, ◌∷◌, List, length};
 ghost use Rattle.fx_line.specs.Stored.{StoredPoint, IsLawful};
-ghost use Rattle.fx_series.specs.Store.{StandsFor, is_added};
+ghost use Rattle.fx_series.specs.Store.{StandsFor};
 ghost use Rattle.std.specs.Option.{option_map};
 ghost use Rattle.fx_top.specs.Bytes.{lines_of, lines_left, bytes_left};
 ghost use Rattle.fx_top.specs.Load.{IsReady, PointLoads, LineLoads, FileLoads, stop_at};
@@ -105,8 +105,7 @@ fn load_line(alloc: Global, line: &[u8], bucket: &Text, store: &mut Store) -> Re
 /// Stores one point in a bucket.
 fn put_point(point: Point, bucket: &Text, store: &mut Store) -> Result<(), LineStop>
     requires lawful { IsLawful point }
-    requires added { is_added store.old.buckets bucket.now ≡ true }
-    requires few { store.old.puts ≤ MOST_POINTS }
+    requires ready { IsReady store.old bucket.now }
     ensures { (buckets : List (List ℕ)) (stored : List StoredPoint) → StandsFor store.old buckets stored → PointLoads buckets bucket.now point stored store.new result }
 {
     if store.points() >= MOST_POINTS {
@@ -117,7 +116,7 @@ fn put_point(point: Point, bucket: &Text, store: &mut Store) -> Result<(), LineS
         Err(PutFault::KindConflict { old, new, .. }) => {
             Err(LineStop::Refused(LineCause::KindConflict { old, new }))
         }
-        Err(PutFault::NoBucket) => Err(LineStop::Memory),
+        Err(PutFault::NoBucket) => unreachable!(),
         Err(PutFault::Memory) => Err(LineStop::Memory),
     }
 }

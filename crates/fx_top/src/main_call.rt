@@ -1,6 +1,7 @@
-ghost use Rattle.std.specs.Prelude.{◌≡◌, ◌≢◌, Some};
+ghost use Rattle.std.specs.Prelude.{◌≡◌, ◌≢◌, ℕ, List, Option, Some};
 ghost use Rattle.fx_base.specs.Outside.{Told, Rose};
-ghost use Rattle.fx_top.specs.Answer.{Answers, Causes, Writes, NamesFile, IsSaid};
+ghost use Rattle.fx_top.specs.Answer.{Answers, Causes, Writes, NamesFile, IsSaid, IsSettled};
+ghost use Rattle.fx_top.specs.declared.outcome.Outcome.{Outcome as AnyOutcome};
 
 use crate::message::tell;
 use crate::outcome::Outcome;
@@ -15,7 +16,9 @@ use std::sync::ledger::Ledger;
 ///
 /// `answers` is the headline: over files that tell their content each answer is the one that
 /// evaluating the query directly over all loaded points gives, in the order of the refusals.
-/// `causes` says that a device's fault is answered only where its count of faults rose.
+/// `exactly` turns it round: where the words and what the files tell allow an answer that no device
+/// and no want of memory makes, no other such answer comes. `causes` says that a device's fault is
+/// answered only where its count of faults rose.
 pub fn flux_main<F: Files, O: Sink, E: Sink, L: Ledger>(
     alloc: Global,
     words: &[Text],
@@ -26,6 +29,7 @@ pub fn flux_main<F: Files, O: Sink, E: Sink, L: Ledger>(
     steps: &mut Steps<L>,
 ) -> Outcome
     ensures answers { (told : Told) → F.content files.old ≡ Some told → Answers told words.now (O.written out.old) (O.written out.new) result }
+    ensures exactly { (told : Told) (new : Option (List ℕ)) (o : AnyOutcome) → F.content files.old ≡ Some told → IsSettled o → Answers told words.now (O.written out.old) new o → IsSettled result → result ≡ o }
     ensures causes { Causes (F.faults files.old) (F.faults files.new) (O.faults out.old) (O.faults out.new) result }
     ensures writes { Writes (O.written out.old) (O.written out.new) result }
     ensures names { NamesFile words.now result }

@@ -1,7 +1,7 @@
 //! The one form of script that runs today.
 ghost use Rattle.std.specs.Prelude.{◌≡◌, ℕ, ℤ, List, IfOk, IfSome, IfNone, MatchOption, Some, map, IsTrue, ◌↔◌};
 ghost use Rattle.fx_ast.specs.Bare.{nowhere, bare, bare_props, bare_script};
-ghost use Rattle.fx_ast.specs.Shape.{a_piece, part, shape, prop, props_of, script_tree};
+ghost use Rattle.fx_ast.specs.Shape.{a_piece, part, tree_of, prop, props_of, script_tree};
 ghost use Rattle.fx_ast.specs.Tree.{Tree, tree, time, text, name, piece, no_parts, Props};
 ghost use Rattle.fx_top.specs.Query.{IsQuery, shown, piped, called, text_arg, time_args, begin_of};
 ghost use Rattle.fx_top.specs.declared.query.Query.{Query};
@@ -63,7 +63,7 @@ fn parts_of(script: &Script) -> Option<Parts<'_>>
 
 /// The one expression that a script shows, where it does nothing else, and its place.
 fn shown(script: &Script) -> Option<(Place, &Expr)>
-    ensures some { IfSome result (λ r. bare_script (script_tree script.now) ≡ shown (bare (shape r.1.now))) }
+    ensures some { IfSome result (λ r. bare_script (script_tree script.now) ≡ shown (bare (tree_of r.1.now))) }
     ensures begin { IfSome result (λ r. begin_of (script_tree script.now).statements ≡ Some r.0) }
     ensures none { IfNone result ((t : Tree) → bare_script (script_tree script.now) ≡ shown t → ⊥) }
 {
@@ -81,8 +81,8 @@ fn shown(script: &Script) -> Option<(Place, &Expr)>
 
 /// The two sides of one `|>`.
 fn piped(expr: &Expr) -> Option<(&Expr, &Expr)>
-    ensures some { IfSome result (λ r. bare (shape expr.now) ≡ piped (bare (shape r.0.now)) (bare (shape r.1.now))) }
-    ensures none { IfNone result ((a b : Tree) → bare (shape expr.now) ≡ piped a b → ⊥) }
+    ensures some { IfSome result (λ r. bare (tree_of expr.now) ≡ piped (bare (tree_of r.0.now)) (bare (tree_of r.1.now))) }
+    ensures none { IfNone result ((a b : Tree) → bare (tree_of expr.now) ≡ piped a b → ⊥) }
 {
     match expr.node.get() {
         Node::Pipe { first, calls } => match only(calls.as_slice()) {
@@ -95,8 +95,8 @@ fn piped(expr: &Expr) -> Option<(&Expr, &Expr)>
 
 /// The arguments of a call of the name.
 fn called<'a>(expr: &'a Expr, label: &str) -> Option<&'a [Prop]>
-    ensures some { IfSome result (λ r. bare (shape expr.now) ≡ called label.now (bare_props (props_of (map prop r.now)))) }
-    ensures none { IfNone result ((args : Props) → bare (shape expr.now) ≡ called label.now args → ⊥) }
+    ensures some { IfSome result (λ r. bare (tree_of expr.now) ≡ called label.now (bare_props (props_of (map prop r.now)))) }
+    ensures none { IfNone result ((args : Props) → bare (tree_of expr.now) ≡ called label.now args → ⊥) }
 {
     match expr.node.get() {
         Node::Call { callee, args } => {
@@ -111,7 +111,7 @@ fn called<'a>(expr: &'a Expr, label: &str) -> Option<&'a [Prop]>
 }
 
 fn is_name(expr: &Expr, label: &str) -> bool
-    ensures { IsTrue result ↔ (bare (shape expr.now) ≡ tree nowhere (name label.now)) }
+    ensures { IsTrue result ↔ (bare (tree_of expr.now) ≡ tree nowhere (name label.now)) }
 {
     match expr.node.get() {
         Node::Name(text) => is_text(text, label),
@@ -149,8 +149,8 @@ fn time_args(args: &[Prop], first: &str, second: &str) -> Option<(i64, i64)>
 
 /// The time of the argument with this label.
 fn time_arg(arg: &Prop, label: &str) -> Option<i64>
-    ensures some { IfSome result (λ t. (arg.now.label ≡ label.now) × (bare (shape arg.now.value) ≡ tree nowhere (time t))) }
-    ensures none { IfNone result ((t : ℤ) → arg.now.label ≡ label.now → bare (shape arg.now.value) ≡ tree nowhere (time t) → ⊥) }
+    ensures some { IfSome result (λ t. (arg.now.label ≡ label.now) × (bare (tree_of arg.now.value) ≡ tree nowhere (time t))) }
+    ensures none { IfNone result ((t : ℤ) → arg.now.label ≡ label.now → bare (tree_of arg.now.value) ≡ tree nowhere (time t) → ⊥) }
 {
     if is_text(&arg.label, label) {
         moment(&arg.value)
@@ -161,8 +161,8 @@ fn time_arg(arg: &Prop, label: &str) -> Option<i64>
 
 /// A text without interpolation.
 fn plain_text(expr: &Expr) -> Option<&Text>
-    ensures some { IfSome result (λ r. bare (shape expr.now) ≡ tree nowhere (text (piece r.now no_parts))) }
-    ensures none { IfNone result ((value : List ℕ) → bare (shape expr.now) ≡ tree nowhere (text (piece value no_parts)) → ⊥) }
+    ensures some { IfSome result (λ r. bare (tree_of expr.now) ≡ tree nowhere (text (piece r.now no_parts))) }
+    ensures none { IfNone result ((value : List ℕ) → bare (tree_of expr.now) ≡ tree nowhere (text (piece value no_parts)) → ⊥) }
 {
     match expr.node.get() {
         Node::Text(parts) => match only(parts.as_slice()) {
@@ -185,8 +185,8 @@ fn piece_of(item: &Part) -> Option<&Text>
 }
 
 fn moment(expr: &Expr) -> Option<i64>
-    ensures some { IfSome result (λ t. bare (shape expr.now) ≡ tree nowhere (time t)) }
-    ensures none { IfNone result ((t : ℤ) → bare (shape expr.now) ≡ tree nowhere (time t) → ⊥) }
+    ensures some { IfSome result (λ t. bare (tree_of expr.now) ≡ tree nowhere (time t)) }
+    ensures none { IfNone result ((t : ℤ) → bare (tree_of expr.now) ≡ tree nowhere (time t) → ⊥) }
 {
     match expr.node.get() {
         Node::Time(t) => Some(number(t)),

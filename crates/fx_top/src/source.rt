@@ -61,15 +61,11 @@ fn series_table<L: Ledger>(
     ensures { (s : Series) → slice_get store.now.series number ≡ Some s → IfOk result (λ t. t ≡ table_of query.now s) }
 {
     let values = read_range(alloc, store, number, query, steps)?;
-    match store.series_key(number) {
-        None => Err(Memory),
-        Some(key) => {
-            let head = series_head(alloc, key, query, labels)?;
-            let key = shared_key(alloc, &head)?;
-            let rows = rows_of(alloc, head, values)?;
-            Ok(Table { key, rows })
-        }
-    }
+    let key = store.series_key(number).unwrap();
+    let head = series_head(alloc, key, query, labels)?;
+    let key = shared_key(alloc, &head)?;
+    let rows = rows_of(alloc, head, values)?;
+    Ok(Table { key, rows })
 }
 
 /// The values of a series in the query's range.

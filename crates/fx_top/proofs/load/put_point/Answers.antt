@@ -1,4 +1,4 @@
-use Rattle.std.proofs.Common.{◌≡◌, ◌<◌, length, ◌∙◌, arith}
+use Rattle.std.proofs.Common.{◌≡◌, ◌<◌, length, ◌∙◌, arith, false, true}
 use Rattle.fx_top.specs.declared.load.TheConstants.{MOST_POINTS}
 use Rattle.fx_top.proofs.load.put_point.Goals as goal
 

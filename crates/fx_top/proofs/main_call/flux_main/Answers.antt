@@ -1,4 +1,5 @@
 use Rattle.fx_top.proofs.AnswerLemmas.{told_answers, told_writes}
+use Rattle.fx_top.proofs.AnswerOnce.{one_answer}
 use Rattle.fx_top.proofs.main_call.flux_main.Goals as goal
 
 pub returns-clause-answers : goal.returns-clause-answers
@@ -8,3 +9,9 @@ returns-clause-answers g c = λ told tells.
 pub returns-clause-writes : goal.returns-clause-writes
 returns-clause-writes g c =
     told_writes (g.O.Sink.written c.args.out.now) (g.O.Sink.written c.run-ended.new.out) c.run-ended.result.outcome c.tell.result c.tell.ensures.kept c.run-ended.ensures.writes
+
+pub returns-clause-exactly : goal.returns-clause-exactly
+returns-clause-exactly g c = λ told new o tells settled answer settled'.
+    let old = g.O.Sink.written c.args.out.now in
+    let here = told_answers told c.args.words.now old (g.O.Sink.written c.run-ended.new.out) c.run-ended.result.outcome c.tell.result c.tell.ensures.kept (c.run-ended.ensures.answers told tells) in
+    one_answer told c.args.words.now old (g.O.Sink.written c.run-ended.new.out) old new c.tell.result o settled' settled here answer

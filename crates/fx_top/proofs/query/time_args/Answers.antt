@@ -3,7 +3,7 @@ use Rattle.std.specs.Int.{w64}
 use Rattle.std.proofs.lemmas.Int.{to_z-of_z, ints}
 use Rattle.fx_ast.specs.declared.expr.Prop.{Prop}
 use Rattle.fx_ast.specs.Tree.{tree, time}
-use Rattle.fx_ast.specs.Shape.{shape, prop, props_of}
+use Rattle.fx_ast.specs.Shape.{tree_of, prop, props_of}
 use Rattle.fx_ast.specs.Bare.{nowhere, bare, bare_props}
 use Rattle.fx_top.specs.Query.{time_args}
 use Rattle.fx_top.proofs.QueryLemmas.{if_none, same_two, two_is, two_of}
@@ -20,7 +20,7 @@ returns-in_err-time_arg-clause-none c =
     (λ a b h.
     let found = two_of c.args.args.now c.args.first.now c.args.second.now (tree nowhere (time a)) (tree nowhere (time b)) h in
     let same = (same_two c.in_ok-a.a.now c.in_ok-a.b.now found.0 found.1 (sym c.in_ok-a.ensures.some ∙ found.2)).0 in
-    c.in_err-time_arg.ensures.none a (ap (λ (p : Prop). p.label) same ∙ found.3.0) (ap (λ (p : Prop). bare (shape p.value)) same ∙ found.3.1))
+    c.in_err-time_arg.ensures.none a (ap (λ (p : Prop). p.label) same ∙ found.3.0) (ap (λ (p : Prop). bare (tree_of p.value)) same ∙ found.3.1))
 
 pub returns-in_err-time_arg-2-clause-none : goal.returns-in_err-time_arg-2-clause-none
 returns-in_err-time_arg-2-clause-none c =
@@ -28,7 +28,7 @@ returns-in_err-time_arg-2-clause-none c =
     (λ a b h.
     let found = two_of c.args.args.now c.args.first.now c.args.second.now (tree nowhere (time a)) (tree nowhere (time b)) h in
     let same = (same_two c.in_ok-a.a.now c.in_ok-a.b.now found.0 found.1 (sym c.in_ok-a.ensures.some ∙ found.2)).1 in
-    c.in_err-time_arg-2.ensures.none b (ap (λ (p : Prop). p.label) same ∙ found.4.0) (ap (λ (p : Prop). bare (shape p.value)) same ∙ found.4.1))
+    c.in_err-time_arg-2.ensures.none b (ap (λ (p : Prop). p.label) same ∙ found.4.0) (ap (λ (p : Prop). bare (tree_of p.value)) same ∙ found.4.1))
 
 pub returns-clause-some : goal.returns-clause-some
 returns-clause-some c =
