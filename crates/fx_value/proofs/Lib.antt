@@ -2,6 +2,7 @@ pub mod Calls
 pub mod Ends
 pub mod Facts
 pub mod Heads
+pub mod LabelLaws
 pub mod Loops
 pub mod Place
 pub mod Rows

@@ -1,13 +1,10 @@
 -- Lists of entries in the order of their keys, and what stands at the place of a key. The entries are read from
 -- items by a function.
-use Rattle.std.proofs.Common.{◌≡◌, ℕ, suc, Bool, true, false, T, List, [], ◌∷◌, map, get_or, refl, sym, ap, subst, ◌∙◌}
-use Rattle.std.specs.Prelude.{◌&&◌, cond, None, Some}
+use Rattle.std.proofs.Common.{◌≡◌, ℕ, suc, true, false, List, [], ◌∷◌, map, get_or, sym, ap, subst}
 use Rattle.std.specs.declared.cmp.Ordering.{Ordering}
 use Rattle.std.specs.declared.cmp.Ordering.TheVariants.{Less, Equal, Greater}
-use Rattle.std.specs.Ordering.{is_lt, is_eq}
-use Rattle.std.specs.Cmp.{IsTotalOrder}
 use Rattle.std.specs.List.{insert}
-use Rattle.std.specs.FinMap.Entries.{by_order, put, find, is_sorted, below_all}
+use Rattle.std.specs.FinMap.Entries.{by_order, put}
 use Rattle.std.proofs.Math.ListN.{set}
 use Rattle.fx_value.specs.Place.{before, hits, StandsAt, BelongsAt}
 

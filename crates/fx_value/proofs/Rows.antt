@@ -28,29 +28,34 @@ apart q k t e =
     let tie : eq_by_cmp text_cmp q k ≡ true = ap (eq_by_cmp text_cmp q) (sym e) ∙ (eq_by_cmp_equiv nat_list_cmp_total).refl q in
     cc
 
-module _ (a b : Scalar) where
-  below-filled : (x : List ℕ) (es : List (List ℕ × Source)) → below_all text_cmp x (filled a b es) ≡ below_all text_cmp x es
-  below-filled x [] = refl
-  below-filled x (e ∷ es) = ap (λ t. is_lt (text_cmp x e.0) && t) (below-filled x es)
+-- entries whose values are others
+module _ {Y : Type 0} (f : Source → Y) where
+  abbrev pub mapped : List (List ℕ × Source) → List (List ℕ × Y)
+  mapped = map (λ e. (e.0, f e.1))
 
-  sorted-filled : (es : List (List ℕ × Source)) → is_sorted text_cmp (filled a b es) ≡ is_sorted text_cmp es
-  sorted-filled [] = refl
-  sorted-filled (e ∷ es) = λ i. below-filled e.0 es i && sorted-filled es i
+  below-mapped : (x : List ℕ) (es : List (List ℕ × Source)) → below_all text_cmp x (mapped es) ≡ below_all text_cmp x es
+  below-mapped x [] = refl
+  below-mapped x (e ∷ es) = ap (λ t. is_lt (text_cmp x e.0) && t) (below-mapped x es)
 
-  find-filled : (q : List ℕ) (es : List (List ℕ × Source)) → find text_cmp q (filled a b es) ≡ option_map (value_at a b) (find text_cmp q es)
-  find-filled q [] = refl
-  find-filled q (e ∷ es) =
-      elim (eq_by_cmp text_cmp q e.0) as (λ t. cond t (Some (value_at a b e.1)) (find text_cmp q (filled a b es)) ≡ option_map (value_at a b) (cond t (Some e.1) (find text_cmp q es))) [
+  pub sorted-mapped : (es : List (List ℕ × Source)) → is_sorted text_cmp (mapped es) ≡ is_sorted text_cmp es
+  sorted-mapped [] = refl
+  sorted-mapped (e ∷ es) = λ i. below-mapped e.0 es i && sorted-mapped es i
+
+  pub find-mapped : (q : List ℕ) (es : List (List ℕ × Source)) → find text_cmp q (mapped es) ≡ option_map f (find text_cmp q es)
+  find-mapped q [] = refl
+  find-mapped q (e ∷ es) =
+      elim (eq_by_cmp text_cmp q e.0) as (λ t. cond t (Some (f e.1)) (find text_cmp q (mapped es)) ≡ option_map f (cond t (Some e.1) (find text_cmp q es))) [
         | true ↦ refl
-        | false ↦ find-filled q es
+        | false ↦ find-mapped q es
       ]
 
-  keys-filled : (es : List (List ℕ × Source)) → map (λ e. e.0) (filled a b es) ≡ map (λ e. e.0) es
-  keys-filled [] = refl
-  keys-filled (e ∷ es) = ap (λ ks. e.0 ∷ ks) (keys-filled es)
+  pub keys-mapped : (es : List (List ℕ × Source)) → map (λ e. e.0) (mapped es) ≡ map (λ e. e.0) es
+  keys-mapped [] = refl
+  keys-mapped (e ∷ es) = ap (λ ks. e.0 ∷ ks) (keys-mapped es)
 
+module _ (a b : Scalar) where
   rising : (h : FinMap text_cmp Source) → T (is_sorted text_cmp (filled a b (fin.entries h)))
-  rising h = subst T (sym (sorted-filled (fin.entries h))) (fin.entries_sorted h)
+  rising h = subst T (sym (sorted-mapped (value_at a b) (fin.entries h))) (fin.entries_sorted h)
 
   pub entries-row_of : (h : FinMap text_cmp Source) → fin.entries (row_of h a b) ≡ filled a b (fin.entries h)
   unfolding row_of
@@ -58,12 +63,12 @@ module _ (a b : Scalar) where
 
   -- the labels of a row are those of its head
   pub keys-row_of : (h : FinMap text_cmp Source) → fin.keys (row_of h a b) ≡ fin.keys h
-  keys-row_of h = ap (map (λ e. e.0)) (entries-row_of h) ∙ keys-filled (fin.entries h)
+  keys-row_of h = ap (map (λ e. e.0)) (entries-row_of h) ∙ keys-mapped (value_at a b) (fin.entries h)
 
   -- the value at a label is that of its source
   pub get-row_of : (h : FinMap text_cmp Source) (q : List ℕ) → fin.get (row_of h a b) q ≡ option_map (value_at a b) (fin.get h q)
   get-row_of h q =
-      fin.get-entries _ q ∙ ap (find text_cmp q) (entries-row_of h) ∙ find-filled q (fin.entries h) ∙ ap (option_map (value_at a b)) (sym (fin.get-entries h q))
+      fin.get-entries _ q ∙ ap (find text_cmp q) (entries-row_of h) ∙ find-mapped (value_at a b) q (fin.entries h) ∙ ap (option_map (value_at a b)) (sym (fin.get-entries h q))
 
   map_chosen : (t : Bool) (s : Source) (o : Option Source) → option_map (value_at a b) (cond t (Some s) o) ≡ cond t (Some (value_at a b s)) (option_map (value_at a b) o)
   map_chosen true s o = refl
@@ -167,12 +172,12 @@ module _ (a b v : Scalar) (h : FinMap text_cmp Source) (m : FinMap text_cmp Scal
   pub second_replaced : IsOnly h k Second → row_of h a v ≡ fin.insert m k v
   second_replaced o = row_replaced a b a v Second (keeps_first a b v) h m k view o
 
-chosen_none : (t : Bool) (o : Option Scalar) → (t ≡ true → None ≡ o) → o ≡ cond t None o
+chosen_none : {X : Type 0} (t : Bool) (o : Option X) → (t ≡ true → None ≡ o) → o ≡ cond t None o
 chosen_none true o h = sym (h refl)
 chosen_none false o h = refl
 
 -- to take out a label that isn't there changes nothing
-pub nothing_removed : (m : FinMap text_cmp Scalar) (k : List ℕ) → None ≡ fin.get m k → m ≡ fin.remove m k
+pub nothing_removed : {X : Type 0} (m : FinMap text_cmp X) (k : List ℕ) → None ≡ fin.get m k → m ≡ fin.remove m k
 nothing_removed m k lacks =
     fin.same_map nat_list_cmp_total text_same _ _ (λ q.
     chosen_none (eq_by_cmp text_cmp q k) (fin.get m q) (λ t. lacks ∙ ap (fin.get m) (sym (text_same q k ((Equal-is _).0 t))))

@@ -1,5 +1,5 @@
 -- Changes of labels in all rows of a table.
-use Rattle.std.specs.Prelude.{◌≡◌, List, [], ◌∷◌}
+use Rattle.std.specs.Prelude.{◌≡◌, ℕ, List, [], ◌∷◌}
 use Rattle.std.specs.FinMap.{FinMap, insert, remove}
 use Rattle.fx_base.specs.Text.{text_cmp}
 use Rattle.fx_value.specs.declared.change.Change.{Change}
@@ -27,6 +27,15 @@ changed_head (Remove label) head = remove head label
 abbrev pub all_changed_head : List Change → FinMap text_cmp Source → FinMap text_cmp Source
 all_changed_head [] head = head
 all_changed_head (change ∷ changes) head = all_changed_head changes (changed_head change head)
+
+abbrev pub label_of : Change → List ℕ
+label_of (Set label value) = label
+label_of (Remove label) = label
+
+-- the map without the labels of the changes
+abbrev pub all_left_out : List Change → FinMap text_cmp Source → FinMap text_cmp Source
+all_left_out [] head = head
+all_left_out (change ∷ changes) head = all_left_out changes (remove head (label_of change))
 
 -- one head is what the changes make of the other
 abbrev pub IsReshape : List Change → Reshape → Type 0

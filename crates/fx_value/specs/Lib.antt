@@ -2,6 +2,7 @@ pub mod Calls
 pub mod Change
 pub mod Ends
 pub mod KeyTest
+pub mod Labels
 pub mod Own
 pub mod Place
 pub mod Row

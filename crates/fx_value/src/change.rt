@@ -1,5 +1,5 @@
 ghost use Rattle.std.specs.Prelude.{◌≡◌, map, IfOk, IfSome, OnOk, OnErr};
-ghost use Rattle.fx_value.specs.Change.{all_changed, all_changed_head, changed_head, IsReshape};
+ghost use Rattle.fx_value.specs.Change.{all_changed, all_changed_head, changed_head, label_of, IsReshape};
 
 use crate::head::Head;
 use crate::row::Row;
@@ -26,6 +26,15 @@ pub(crate) struct Reshape {
 }
 
 impl Change {
+    pub(crate) fn label(&self) -> &Text
+        ensures { result.now ≡ label_of self.now }
+    {
+        match self {
+            Change::Set { label, .. } => label,
+            Change::Remove { label } => label,
+        }
+    }
+
     fn of_head(&self, alloc: Global, head: &Head) -> Result<Head, Memory>
         ensures { IfOk result (λ h. h ≡ changed_head self.now head.now) }
     {

@@ -1,13 +1,15 @@
-ghost use Rattle.std.specs.Prelude.{◌≡◌, ◌↔◌, IfOk, IfSome, IsTrue};
+ghost use Rattle.std.specs.Prelude.{◌≡◌, ◌↔◌, IfOk, IfSome, IsTrue, Some};
 ghost use Rattle.std.specs.Option.{option_map};
 ghost use Rattle.std.specs.FinMap as map;
+ghost use Rattle.fx_value.specs.Labels.{laid, HasAll};
 ghost use Rattle.fx_value.specs.Own.{source_of};
 ghost use Rattle.fx_value.specs.Row.{IsOnly, shared};
 
+use crate::labels::Labels;
 use crate::scalar::Scalar;
 use crate::slot::{
-    Slot, are_same, have_same_labels, index_of, is_first_alone, is_second_alone, labels_in,
-    shared_in, with_source, without_label,
+    Slot, are_in, are_same, copy_of, have_same_labels, index_of, is_first_alone, is_second_alone,
+    labels_in, shared_in, with_source, without_label,
 };
 use crate::source::Source;
 use fx_base::{List, Memory, Text};
@@ -109,6 +111,24 @@ impl Head {
     {
         let slots = without_label(alloc, &self.slots, label)?;
         Ok(Head { slots })
+    }
+
+    /// This head with the labels of another one over its own.
+    pub(crate) fn under(&self, alloc: Global, over: &Head) -> Result<Head, Memory>
+        ensures { IfOk result (λ h. h ≡ laid (Some over.now) self.now) }
+    {
+        let mut slots = copy_of(alloc, &self.slots)?;
+        for slot in &over.slots {
+            slots = with_source(alloc, &slots, &slot.label, slot.source.copy()?)?;
+        }
+        Ok(Head { slots })
+    }
+
+    /// Whether each label is one of these.
+    pub(crate) fn is_in(&self, labels: &Labels) -> bool
+        ensures { IsTrue result ↔ HasAll labels.now self.now }
+    {
+        are_in(&self.slots, labels)
     }
 
     /// The own value of a row that this label has, if no other label has it.

@@ -6,6 +6,7 @@ mod answer;
 mod change;
 mod head;
 mod key_test;
+mod labels;
 mod row;
 mod row_fun;
 mod scalar;

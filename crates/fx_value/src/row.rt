@@ -4,21 +4,21 @@ ghost use Rattle.std.specs.FinMap as map;
 ghost use Rattle.fx_value.specs.Change.{all_changed, IsReshape};
 ghost use Rattle.fx_value.specs.Row.{row_of};
 
-use crate::change::{Change, Reshape, reshaped};
-use crate::head::{Head, OwnPlace};
+use crate::change::{Change, Reshape};
+use crate::head::OwnPlace;
+use crate::labels::Labels;
 use crate::scalar::Scalar;
 use crate::shape::Shape;
 use crate::source::Source;
 use fx_base::{List, Memory, Text};
 use std::alloc::Global;
 use std::marker::Model;
-use std::rc::Rc;
 
 /// A finite map from labels to scalars. Rows of one shape share their labels and the values that
-/// all of them have.
+/// all of them have; a label that a row gets beside these costs that label alone.
 #[derive(Debug, Drop)]
 pub struct Row {
-    head: Rc<Head>,
+    labels: Labels,
     first: Scalar,
     second: Scalar,
 }
@@ -35,7 +35,7 @@ impl Model for Row {
 
     ghost coded = { map.code (coded_list coded_ℕ) the_row.coded };
 
-    ghost view = { λ r. row_of r.head.value r.first r.second };
+    ghost view = { λ r. row_of r.labels r.first r.second };
 }
 
 impl Row {
@@ -44,7 +44,7 @@ impl Row {
         ensures { IfOk result (λ r. r ≡ map.empty) }
     {
         Ok(Row {
-            head: Rc::new(alloc, Head::empty(alloc))?,
+            labels: Labels::empty(alloc)?,
             first: Scalar::Null,
             second: Scalar::Null,
         })
@@ -55,7 +55,7 @@ impl Row {
         ensures { IfOk result (λ r. r ≡ row_of shape.now first second) }
     {
         Ok(Row {
-            head: shape.head.clone()?,
+            labels: Labels::of(&shape.head)?,
             first,
             second,
         })
@@ -65,7 +65,7 @@ impl Row {
     pub fn get(&self, label: &Text) -> Option<&Scalar>
         ensures { option_map (λ v. v.now) result ≡ map.get self.now label.now }
     {
-        match self.head.as_ref().get(label) {
+        match self.labels.get(label) {
             None => None,
             Some(Source::Fixed(value)) => Some(value),
             Some(Source::First) => Some(&self.first),
@@ -78,22 +78,25 @@ impl Row {
         ensures { IfOk result (λ r. r ≡ self.now) }
     {
         Ok(Row {
-            head: self.head.clone()?,
+            labels: self.labels.copy()?,
             first: self.first.copy()?,
             second: self.second.copy()?,
         })
     }
 
     /// Gives the label this value; a refusal leaves the row as it was. It takes no memory where the
-    /// label has one of the row's own values to itself.
+    /// label has one of the row's two values to itself and the row has no labels of its own yet.
     pub fn set(&mut self, alloc: Global, label: Text, value: Scalar) -> Result<(), Memory>
         ensures ok { OnOk result (self.new ≡ map.insert self.old label value) }
         ensures err { OnErr result (self.new ≡ self.old) }
     {
-        match self.head.as_ref().own_place(&label) {
+        match self.labels.own_place(&label) {
             Some(OwnPlace::First) => put(&mut self.first, value),
             Some(OwnPlace::Second) => put(&mut self.second, value),
-            None => self.head = with_value(alloc, self.head.as_ref(), &label, value)?,
+            None => {
+                let labels = self.labels.with_value(alloc, &label, value)?;
+                put(&mut self.labels, labels);
+            }
         }
         Ok(())
     }
@@ -127,8 +130,8 @@ impl Row {
         ensures ok { OnOk result (self.new ≡ map.remove self.old label.now) }
         ensures err { OnErr result (self.new ≡ self.old) }
     {
-        let head = self.head.as_ref().without(alloc, label)?;
-        self.head = Rc::new(alloc, head)?;
+        let labels = self.labels.without(alloc, label)?;
+        put(&mut self.labels, labels);
         Ok(())
     }
 
@@ -143,8 +146,7 @@ impl Row {
         ensures row { OnOk result (self.new ≡ all_changed changes.now self.old) }
         ensures known { IfOk result (IsReshape changes.now) }
     {
-        let known = reshaped(alloc, changes, &self.head, last)?;
-        self.head = known.to.clone()?;
+        let known = self.labels.change(alloc, changes, last)?;
         Ok(known)
     }
 
@@ -152,27 +154,19 @@ impl Row {
     pub fn labels(&self, alloc: Global) -> Result<List<Text>, Memory>
         ensures { IfOk result (λ v. v ≡ map.keys self.now) }
     {
-        self.head.as_ref().labels(alloc)
+        self.labels.list(alloc)
     }
 
     /// Whether the rows have the same labels.
     pub fn same_labels(&self, other: &Row) -> bool
         ensures { IsTrue result ↔ (map.keys self.now ≡ map.keys other.now) }
     {
-        self.head.as_ref().same_labels(other.head.as_ref())
+        self.labels.are_same(&other.labels)
     }
 }
 
-fn put(place: &mut Scalar, value: Scalar)
+fn put<T: Drop>(place: &mut T, value: T)
     ensures { place.new ≡ value }
 {
     *place = value;
-}
-
-/// The head in which all rows have this value at the label.
-fn with_value(alloc: Global, head: &Head, label: &Text, value: Scalar) -> Result<Rc<Head>, Memory>
-    ensures { IfOk result (λ h. h.value ≡ map.insert head.now label.now (Source.Fixed value)) }
-{
-    let head = head.with(alloc, label, Source::Fixed(value))?;
-    Ok(Rc::new(alloc, head)?)
 }

@@ -3,12 +3,14 @@ ghost use Rattle.std.specs.Cmp.Lexicographic.{pointwise};
 ghost use Rattle.fx_base.specs.Text.{same_text};
 ghost use Rattle.std.specs.FinMap.Entries.{find, put};
 ghost use Rattle.fx_base.specs.Text.{text_cmp};
-ghost use Rattle.std.specs.List.{filter_map};
+ghost use Rattle.std.specs.FinMap.{contains_key};
+ghost use Rattle.std.specs.List.{filter_map, list_all};
 ghost use Rattle.fx_value.specs.Row.{shared_cell};
 ghost use Rattle.fx_value.specs.Place.{StandsAt, BelongsAt};
 ghost use Rattle.fx_value.specs.Source.{is_first, is_second};
 ghost use Rattle.fx_value.specs.Slots.{entry_of, entries_of, labels_of, is_alone, others, IsFoundAt};
 
+use crate::labels::Labels;
 use crate::scalar::Scalar;
 use crate::source::Source;
 use fx_base::{List, Memory, Text};
@@ -86,7 +88,7 @@ pub fn index_of(slots: &Vec<Slot>, label: &Text) -> Option<usize>
 }
 
 /// The same slots, with room for one more. Their texts are shared.
-fn copy_of(alloc: Global, slots: &Vec<Slot>) -> Result<Vec<Slot>, Memory>
+pub fn copy_of(alloc: Global, slots: &Vec<Slot>) -> Result<Vec<Slot>, Memory>
     ensures { IfOk result (λ v. v.items ≡ slots.now.items) }
 {
     let mut copies = Vec::with_capacity(alloc, slots.len() + 1)?;
@@ -169,6 +171,13 @@ pub fn is_second_alone(slots: &Vec<Slot>, label: &Text) -> bool
     slots
         .iter()
         .all(|slot| !slot.source.is_second() || slot.label == *label)
+}
+
+/// Whether the label of each slot is one of these.
+pub fn are_in(slots: &Vec<Slot>, labels: &Labels) -> bool
+    ensures { result ≡ list_all (λ s. contains_key labels.now s.label) slots.now.items }
+{
+    slots.iter().all(|slot| labels.has(&slot.label))
 }
 
 /// Copies of the slots with other labels.

@@ -5,4 +5,4 @@ use Rattle.fx_value.specs.declared.scalar.Scalar.TheVariants.{Null}
 use Rattle.fx_value.proofs.row.Row.empty.Goals as goal
 
 pub returns : goal.returns
-returns c = ap (λ h. row_of h Null Null) (c.in_ok-new.ensures.ok ∙ c.empty.ensures) ∙ row_of-empty Null Null
+returns c = ap (λ h. row_of h Null Null) c.in_ok-empty.ensures ∙ row_of-empty Null Null

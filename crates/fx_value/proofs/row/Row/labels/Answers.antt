@@ -1,9 +1,7 @@
-use Rattle.std.proofs.Common.{ap, ◌∙◌}
-use Rattle.std.specs.FinMap as map
 use Rattle.fx_value.proofs.Facts.{ok_along}
 use Rattle.fx_value.proofs.Rows.{labels_are}
 use Rattle.fx_value.proofs.row.Row.labels.Goals as goal
 
 pub returns : goal.returns
 returns c =
-    ok_along c.labels.result _ _ (ap map.keys c.as_ref.ensures ∙ labels_are c.self.inside.first c.self.inside.second _ _ c.self.view_is) c.labels.ensures
+    ok_along c.list.result _ _ (labels_are c.self.inside.first c.self.inside.second _ _ c.self.view_is) c.list.ensures

@@ -6,6 +6,5 @@ use Rattle.fx_value.proofs.row.Row.leave_out.Goals as goal
 
 pub returns-clause-ok : goal.returns-clause-ok
 returns-clause-ok c =
-    ap (λ h. row_of h c.self.inside.first c.self.inside.second)
-    (c.in_ok-self-inside.ensures.ok ∙ c.in_ok-head.ensures ∙ ap (λ h. map.remove h c.args.label.now) c.as_ref.ensures)
+    ap (λ h. row_of h c.self.inside.first c.self.inside.second) (c.put.ensures ∙ c.in_ok-labels.ensures)
     ∙ row_of-remove c.self.inside.first c.self.inside.second _ _ ∙ ap (λ m. map.remove m c.args.label.now) c.self.view_is
