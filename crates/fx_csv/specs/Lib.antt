@@ -7,4 +7,5 @@ pub mod Rows
 pub mod Records
 pub mod Runs
 pub mod Shapes
+pub mod Templates
 pub mod Writers

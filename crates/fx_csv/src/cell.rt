@@ -60,25 +60,3 @@ fn cell_for(alloc: Global, value: Option<&Scalar>, label: &Text) -> Result<Cell,
         }
     }
 }
-
-/// Adds a field for each cell.
-pub(crate) fn push_cells(line: &mut Line, cells: &[Cell], row: &Row) -> Result<(), Memory>
-    ensures { (all : List (List ℕ)) → HasFields line.old all → OnOk result (HasFields line.new (all ++ map (cell_text row.now) cells.now)) }
-{
-    for cell in cells {
-        push_cell(line, cell, row)?;
-    }
-    Ok(())
-}
-
-fn push_cell(line: &mut Line, cell: &Cell, row: &Row) -> Result<(), Memory>
-    ensures { (all : List (List ℕ)) → HasFields line.old all → OnOk result (HasFields line.new (all ++ cell_text row.now cell.now ∷ [])) }
-{
-    match cell {
-        Cell::Same(text) => line.push(text.as_slice()),
-        Cell::Own(label) => match row.get(label) {
-            Some(value) => line.push_scalar(value),
-            None => line.push(b""),
-        },
-    }
-}

@@ -4,6 +4,7 @@
 mod block;
 mod cell;
 mod column;
+mod field;
 mod head;
 mod kind;
 mod line;
@@ -11,6 +12,7 @@ mod name;
 mod names;
 mod print;
 mod rows;
+mod template;
 mod text;
 mod writer;
 

@@ -6,7 +6,6 @@ ghost use Rattle.fx_data.specs.Table.{IsLawfulTable};
 ghost use Rattle.fx_csv.specs.Printed.{block_bytes, column_labels, is_block, printed, row_records, HasOneKind};
 ghost use Rattle.fx_csv.specs.Records.{record_bytes};
 ghost use Rattle.fx_csv.specs.Shapes.{columns_over};
-ghost use Rattle.fx_csv.specs.Writers.{Holds};
 
 use crate::block::first_block;
 use crate::column::Column;
@@ -14,7 +13,6 @@ use crate::head::put_heads;
 use crate::line::Line;
 use crate::rows::put_table;
 use crate::writer::{finish, start};
-use csv::Writer;
 use fx_base::{Memory, Sink, SinkFault, Text};
 use fx_data::{Table, Tables};
 use std::alloc::Global;
@@ -73,17 +71,16 @@ fn print_block(
     let mut writer = start(out);
     let mut line = Line::empty(alloc);
     put_heads(&mut writer, &mut line, name, columns)?;
-    put_tables(alloc, &mut writer, &mut line, number, columns, run)?;
     let mut text = finish(writer)?;
+    put_tables(alloc, &mut text, number, columns, run)?;
     text.extend_from_slice(b"\r\n")?;
     Ok(text)
 }
 
-/// Writes the rows of tables that have these columns.
+/// Adds the rows of tables that have these columns.
 fn put_tables(
     alloc: Global,
-    writer: &mut Writer<Vec<u8>>,
-    line: &mut Line,
+    out: &mut Vec<u8>,
     number: u64,
     columns: &[Column],
     tables: &[Table],
@@ -91,10 +88,10 @@ fn put_tables(
     requires lawful { All IsLawfulTable tables.now }
     requires labels { All (λ t. map (λ c. c.label) columns.now ≡ column_labels t) tables.now }
     requires fits { number + length tables.now < 2 ^ 64 }
-    ensures { (bytes : List ℕ) → Holds writer.old bytes → OnOk result (Holds writer.new (bytes ++ flat_map record_bytes (row_records number tables.now))) }
+    ensures { OnOk result (out.new.items ≡ out.old.items ++ flat_map record_bytes (row_records number tables.now)) }
 {
     for (i, table) in tables.iter().enumerate() {
-        put_table(alloc, writer, line, number + i as u64, columns, table)?;
+        put_table(alloc, out, number + i as u64, columns, table)?;
     }
     Ok(())
 }

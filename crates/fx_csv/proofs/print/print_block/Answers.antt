@@ -27,9 +27,8 @@ returns c =
     let hs = heads name c.args.columns.now in
     let rs = row_records c.args.number run in
     let one = c.in_ok-put_heads.ensures out c.start-writer.ensures in
-    let two = c.in_ok-put_tables.ensures (out ++ flat_map record_bytes hs) one in
-    let all = c.in_ok-text.ensures ((out ++ flat_map record_bytes hs) ++ flat_map record_bytes rs) two in
+    let begun = c.in_ok-text.ensures (out ++ flat_map record_bytes hs) one in
     c.in_ok-extend_from_slice.ensures.items
-    ∙ ap (λ l. l ++ line_end) all
+    ∙ ap (λ l. l ++ line_end) (c.in_ok-put_tables.ensures ∙ ap (λ l. l ++ flat_map record_bytes rs) begun)
     ∙ joined out hs rs
     ∙ ap (λ l. out ++ (flat_map record_bytes (l ++ rs) ++ line_end)) (ap (heads name) c.requires.shape ∙ heads_are name run c.requires.some)
