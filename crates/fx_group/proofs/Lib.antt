@@ -1,0 +1,6 @@
+pub mod Gathering
+pub mod Kept
+pub mod Patterns
+pub mod Ranged
+pub mod Steady
+pub mod Turned
