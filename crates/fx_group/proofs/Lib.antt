@@ -1,4 +1,5 @@
 pub mod Gathering
+pub mod Grouped
 pub mod Kept
 pub mod Patterns
 pub mod Ranged

@@ -6,3 +6,4 @@ pub mod Map
 pub mod Range
 pub mod Turned
 pub mod Union
+pub mod Wanted

@@ -2,10 +2,12 @@
 #![tactic(auto)]
 
 mod answer;
+mod grouping;
 mod keeping;
 mod ranging;
 mod turning;
 
+pub use grouping::{group_by, group_except};
 pub use keeping::filter;
 pub use ranging::range;
 pub use turning::map;
