@@ -1,6 +1,6 @@
 -- Loops in which each item takes one call, and what the call gives is put to what was gathered.
-use Rattle.std.proofs.Common.{◌≡◌, ℕ, List, [], ◌∷◌, ◌++◌, refl, sym, ap, subst, ◌∙◌}
-use Rattle.std.specs.Prelude.{Result, Err}
+use Rattle.std.proofs.Common.{◌≡◌, ℕ, List, [], ◌∷◌, ◌++◌, sym, ◌∙◌}
+use Rattle.std.specs.Prelude.{Err}
 use Rattle.fx_base.specs.declared.halt.Halt.{Halt}
 use Rattle.fx_base.specs.declared.meter.Meter.{Meter}
 use Rattle.fx_value.specs.Calls.{IsReady, IsMetered, Ended, Answers}

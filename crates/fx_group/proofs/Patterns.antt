@@ -1,7 +1,6 @@
 -- Work that hears what patterns say, after calls that left them as they were.
-use Rattle.std.proofs.Common.{◌≡◌, ℕ, ◌<◌, Bool, List, length, sym, subst}
+use Rattle.std.proofs.Common.{◌≡◌, ℕ, Bool, List, sym, subst}
 use Rattle.std.specs.Prelude.{Result}
-use Rattle.std.specs.List.{AllByRecursion}
 use Rattle.fx_base.specs.declared.halt.Halt.{Halt}
 use Rattle.fx_base.specs.declared.meter.Meter.{Meter}
 use Rattle.fx_value.specs.Calls.{Answers, AreGiven, heard, SamePatterns}

@@ -1,5 +1,5 @@
 -- The works of operators have one end under each limit that suffices, where those of their row functions do.
-use Rattle.std.proofs.Common.{ℕ, List, [], ◌∷◌, Bool}
+use Rattle.std.proofs.Common.{List, [], ◌∷◌, Bool}
 use Rattle.std.specs.Prelude.{if◌then◌else◌}
 use Rattle.fx_data.specs.declared.key.Key.{Key}
 use Rattle.fx_data.specs.declared.keyed_row.KeyedRow.{KeyedRow}
@@ -8,7 +8,7 @@ use Rattle.fx_group.specs.Answer.{Row, Meaning, truth_of, line_of, tested, turne
 use Rattle.fx_group.specs.Filter.{kept_row, kept_rows, table_if, kept_table, kept_tables}
 use Rattle.fx_group.specs.Map.{mapped_row, mapped_table, mapped_tables}
 use Rattle.fx_group.specs.Turned.{Groups, with_rows, rows_turned, tables_turned}
-use Rattle.fx_value.specs.Ends.{End, Gives, IsLimited}
+use Rattle.fx_value.specs.Ends.{Gives, IsLimited}
 use Rattle.fx_value.specs.Works.{IsSteady}
 use Rattle.fx_value.proofs.Ends.{steady_same, steady_then, steady_each, steady_into, steady_limited}
 

@@ -1,8 +1,7 @@
 -- A range as the code keeps it.
-use Rattle.std.specs.Prelude.{◌≡◌, ℤ, int_le, int_lt, Bool, false, ◌&&◌, List, [], ◌∷◌, map, Option, None, Some, codes}
+use Rattle.std.specs.Prelude.{◌≡◌, ℤ, int_le, int_lt, Bool, false, ◌&&◌, List, [], ◌∷◌, map, Option, Some, codes}
 use Rattle.std.specs.FinMap.{get}
 use Rattle.std.specs.List.{filter}
-use Rattle.fx_value.specs.declared.change.Change.{Change}
 use Rattle.fx_value.specs.declared.change.Change.TheVariants.{Set}
 use Rattle.fx_value.specs.declared.scalar.Scalar.{Scalar}
 use Rattle.fx_value.specs.declared.scalar.Scalar.TheVariants.{Time}

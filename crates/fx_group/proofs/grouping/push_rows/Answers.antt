@@ -1,4 +1,4 @@
-use Rattle.std.proofs.Common.{◌≡◌, ◌∷◌, List, map, sym, ap, subst, ◌∙◌}
+use Rattle.std.proofs.Common.{List, map, sym, ap, subst, ◌∙◌}
 use Rattle.fx_data.specs.Regrouped.{joined, all_joined}
 use Rattle.fx_data.specs.Table.{HasRisingLabels}
 use Rattle.fx_data.specs.declared.key.Key.{Key}

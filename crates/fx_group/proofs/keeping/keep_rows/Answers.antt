@@ -1,5 +1,5 @@
 use Rattle.std.proofs.Common.{◌≡◌, [], ◌∷◌, ◌++◌, sym, subst, append_assoc, rules}
-use Rattle.std.specs.Prelude.{Result, Ok, Err, if◌then◌else◌}
+use Rattle.std.specs.Prelude.{Ok, Err, if◌then◌else◌}
 use Rattle.fx_value.specs.Calls.{Answers, heard}
 use Rattle.fx_value.proofs.Calls.{same_patterns_on}
 use Rattle.fx_group.specs.Answer.{Row, tested}

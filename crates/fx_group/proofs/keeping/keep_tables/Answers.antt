@@ -1,6 +1,5 @@
-use Rattle.std.proofs.Common.{◌≡◌, [], ◌∷◌, ◌++◌, sym, subst, ap, ◌∙◌, append_assoc, List, arith, rules}
-use Rattle.std.proofs.lemmas.List.{append-nil}
-use Rattle.std.specs.Prelude.{Result, Ok, Err}
+use Rattle.std.proofs.Common.{◌≡◌, ◌∷◌, ◌++◌, sym, subst, append_assoc, List, arith, rules}
+use Rattle.std.specs.Prelude.{Ok, Err}
 use Rattle.fx_data.specs.declared.table.Table.{Table}
 use Rattle.fx_data.specs.Table.{HasKey, AreLawful}
 use Rattle.fx_data.proofs.Lawful.{lawful_at}

@@ -1,4 +1,4 @@
-use Rattle.std.proofs.Common.{sym, ap, subst}
+use Rattle.std.proofs.Common.{sym, subst}
 use Rattle.std.specs.Prelude.{IfOk, ◌≡◌}
 use Rattle.fx_data.specs.Regrouped.{joined}
 use Rattle.fx_data.specs.Table.{IsLawfulTable}

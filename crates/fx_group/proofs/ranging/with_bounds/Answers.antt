@@ -1,4 +1,4 @@
-use Rattle.std.proofs.Common.{◌≡◌, List, ℕ, [], ◌∷◌, map, ap, ◌∙◌, rules}
+use Rattle.std.proofs.Common.{◌≡◌, List, ℕ, map, ap, ◌∙◌, rules}
 use Rattle.std.specs.Prelude.{codes}
 use Rattle.fx_value.specs.Change.{all_changed}
 use Rattle.fx_value.specs.declared.change.Change.{Change}

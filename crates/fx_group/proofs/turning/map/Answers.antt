@@ -1,5 +1,5 @@
-use Rattle.std.proofs.Common.{◌≡◌, List, sym, subst, ◌∙◌, rules}
-use Rattle.std.specs.Prelude.{Ok, Err}
+use Rattle.std.proofs.Common.{◌≡◌, List, sym, subst, rules}
+use Rattle.std.specs.Prelude.{Err}
 use Rattle.fx_data.specs.declared.table.Table.{Table}
 use Rattle.fx_value.specs.Calls.{Answers, Ended, heard}
 use Rattle.fx_value.specs.Ends.{Gives}

@@ -1,7 +1,6 @@
-use Rattle.std.proofs.Common.{◌≡◌, List, [], ◌∷◌, sym, subst, rules}
+use Rattle.std.proofs.Common.{◌≡◌, ◌∷◌, sym, subst, rules}
 use Rattle.std.specs.List.{AllByRecursion}
 use Rattle.std.specs.Prelude.{Ok, Err}
-use Rattle.fx_data.specs.declared.table.Table.{Table}
 use Rattle.fx_data.specs.Table.{IsLawfulTable}
 use Rattle.fx_value.specs.Calls.{Answers, heard}
 use Rattle.fx_value.proofs.Calls.{same_patterns_on}
