@@ -5,3 +5,4 @@ pub mod Patterns
 pub mod Ranged
 pub mod Steady
 pub mod Turned
+pub mod Unstuck
