@@ -47,7 +47,7 @@ law_of_use D Suited old new m t u le instances asked is = record { keeps = λ s 
 
 -- bounds, one after another
 
-kinds_last : (s : Solution) (bs : List VarBound) (b : VarBound) → KeepsKinds s (bs ++ b ∷ []) ↔ (KeepsKinds s bs × IsAmong b.kinds b.span (s.type_of b.var))
+pub kinds_last : (s : Solution) (bs : List VarBound) (b : VarBound) → KeepsKinds s (bs ++ b ∷ []) ↔ (KeepsKinds s bs × IsAmong b.kinds b.span (s.type_of b.var))
 kinds_last s [] b = (λ h. (tt, h.0), λ h. (h.1, tt))
 kinds_last s (c ∷ bs) b = (λ h. (let k : KeepsKinds s bs × IsAmong b.kinds b.span (s.type_of b.var) = (kinds_last s bs b).0 h.1 in ((h.0, k.0), k.1)), λ h. (h.0.0, (kinds_last s bs b).1 (h.0.1, h.1)))
 

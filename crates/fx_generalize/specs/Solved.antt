@@ -1,12 +1,15 @@
 -- Types that are kept with their conditions, and their instances.
-use Rattle.std.specs.Prelude.{◌≡◌, ℕ, ◌+◌, ◌≤◌, max, List, [], ◌∷◌}
+use Rattle.std.specs.Prelude.{◌≡◌, ◌↔◌, ℕ, ◌+◌, ◌≤◌, max, List, [], ◌∷◌}
 use Rattle.fx_types.specs.declared.term.Ty as types
 use Rattle.fx_types.specs.Ground.{Ground}
 use Rattle.fx_types.specs.Instance.{Solution, ground}
 use Rattle.fx_types.specs.Kinds.{IsAmong}
 use Rattle.fx_types.specs.Numbers.{numbers}
 use Rattle.fx_types.specs.Shape.{term}
+use Rattle.fx_types.specs.Term.{Term}
+use Rattle.fx_unify.specs.declared.bindings.Bindings as bindings
 use Rattle.fx_unify.specs.Judge.{AreTypes}
+use Rattle.fx_unify.specs.Solutions.{Solves}
 use Rattle.fx_generalize.specs.declared.solved.Solved as declared
 use Rattle.fx_generalize.specs.declared.solved.VarBound as bounds
 
@@ -33,3 +36,11 @@ numbers_bounds (b ∷ bs) = max (b.var + 1) (numbers_bounds bs)
 -- all variables are numbered below `vars`
 abbrev pub IsNumbered : declared.Solved → Type 0
 IsNumbered v = max (numbers (term v.ty)) (max (numbers_terms v.also) (numbers_bounds v.bounds)) ≤ v.vars
+
+-- the term stands for the type under a solution of the bindings
+abbrev pub HasType : bindings.Bindings → Term → Ground → Type 0
+HasType b t g = (s : Solution) × Solves s b × (ground s t ≡ g)
+
+-- the instances are exactly the types that the term stands for
+abbrev pub IsSolvedOf : bindings.Bindings → Term → declared.Solved → Type 0
+IsSolvedOf b t v = (g : Ground) → HasInstance v g ↔ HasType b t g

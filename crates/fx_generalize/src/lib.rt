@@ -2,7 +2,12 @@
 //! its use.
 #![tactic(auto)]
 
+mod apart;
+mod collect;
 mod ends;
+mod kinds;
+mod names;
+mod read;
 mod solved;
 mod used;
 

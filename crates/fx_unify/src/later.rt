@@ -11,7 +11,7 @@ ghost use Rattle.fx_unify.specs.Solutions.{Solves, next_of};
 use crate::bindings::Bindings;
 use crate::bound::Bound;
 use crate::field::Field;
-use crate::numbers::numbers;
+use crate::variables::numbers;
 use crate::work::put_off;
 use fx_base::{List, Memory};
 use fx_types::Ty;
