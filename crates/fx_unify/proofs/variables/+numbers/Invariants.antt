@@ -1,7 +1,7 @@
 use Rattle.std.proofs.Common.{◌≡◌, map, max, drop}
 use Rattle.fx_types.specs.Shape.{label_term, entry_term, labels_of, fields_of}
 use Rattle.fx_types.specs.Numbers.{numbers_labels, numbers_fields}
-use Rattle.fx_unify.proofs.numbers.+numbers.Given as goal
+use Rattle.fx_unify.proofs.variables.+numbers.Given as goal
 
 abbrev pub invariant-label_numbers-loop-entry : goal.invariant-label_numbers-loop-entry
 invariant-label_numbers-loop-entry l =

@@ -11,7 +11,7 @@ use fx_types::{FieldTy, FunTy, LabelField, LabelTy, Rest, RowTy, Ty};
 
 /// One more than the greatest number of a variable in the type, or 0 where it has none.
 #[cycle(numbers)]
-pub(crate) fn numbers(ty: &Ty) -> u64
+pub fn numbers(ty: &Ty) -> u64
     ensures { result ≡ Numbers.numbers (term ty.now) }
 {
     match ty {

@@ -5,7 +5,7 @@ use Rattle.fx_types.specs.Shape.{term, entry_term, label_term, labels_of, fields
 use Rattle.fx_types.proofs.ShapeLaws.{term_bool, term_int, term_text, term_time, term_span, term_pattern, term_done, term_variable, term_array, term_fun, term_rec, term_stream, field_absent, field_is, field_var, tail_default, tail_var, row_is, function_is}
 use Rattle.fx_types.specs.Numbers.{numbers_labels, numbers_pipe, numbers_fields}
 use Rattle.fx_unify.proofs.NumberLaws.{labels_step, labels_end, fields_step, fields_end, start}
-use Rattle.fx_unify.proofs.numbers.+numbers.Goals as goal
+use Rattle.fx_unify.proofs.variables.+numbers.Goals as goal
 
 pub numbers-returns-in-Bool : goal.numbers-returns-in-Bool
 numbers-returns-in-Bool t c = rw (c.in-Bool.is, term_bool) refl
