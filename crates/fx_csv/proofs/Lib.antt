@@ -4,5 +4,6 @@ pub mod ColumnKinds
 pub mod Inserted
 pub mod LawfulRows
 pub mod Numbered
+pub mod Plain
 pub mod RecordBytes
 pub mod Steps

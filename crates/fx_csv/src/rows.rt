@@ -28,20 +28,14 @@ pub(crate) fn put_table(
 {
     let cells = cells_of(alloc, table.key.entries.as_slice(), columns)?;
     let template = template_of(alloc, number, cells.as_slice())?;
-    put_rows(alloc, out, &template, table.rows.as_slice())
+    put_rows(out, &template, table.rows.as_slice())
 }
 
-fn put_rows(
-    alloc: Global,
-    out: &mut Vec<u8>,
-    template: &Template,
-    rows: &[Row],
-) -> Result<(), Memory>
+fn put_rows(out: &mut Vec<u8>, template: &Template, rows: &[Row]) -> Result<(), Memory>
     ensures { OnOk result (out.new.items ≡ out.old.items ++ flat_map (λ row. template_text row template.now) rows.now) }
 {
-    let mut room = Vec::new(alloc);
     for row in rows {
-        template.push_row(out, &mut room, row)?;
+        template.push_row(out, row)?;
     }
     Ok(())
 }

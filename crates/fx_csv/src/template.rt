@@ -5,6 +5,7 @@ ghost use Rattle.std.specs.Option.{option_map};
 ghost use Rattle.std.specs.FinMap as map;
 ghost use Rattle.std.specs.List.{flat_map};
 ghost use Rattle.fx_base.specs.Text.{text_cmp};
+ghost use Rattle.fx_csv.specs.Cells.{scalar_text};
 ghost use Rattle.fx_csv.specs.Records.{comma, field_bytes, record_bytes};
 ghost use Rattle.fx_csv.specs.Rows.{cell_text, record_of};
 ghost use Rattle.fx_csv.specs.Templates.{own_text, piece_text, template_text};
@@ -12,7 +13,7 @@ ghost use Rattle.fx_value.specs.declared.scalar.Scalar.{Scalar};
 
 use crate::cell::Cell;
 use crate::field::push_field;
-use crate::text::push_text;
+use crate::text::{push_bool, push_int, push_time_at};
 use fx_base::{Memory, Text};
 use fx_value::{Row, Scalar};
 use itoa::Buffer;
@@ -83,34 +84,37 @@ fn add(
 }
 
 impl Template {
-    /// Adds the record of a row. `room` is for the text of a value.
-    pub(crate) fn push_row(
-        &self,
-        out: &mut Vec<u8>,
-        room: &mut Vec<u8>,
-        row: &Row,
-    ) -> Result<(), Memory>
+    /// Adds the record of a row.
+    pub(crate) fn push_row(&self, out: &mut Vec<u8>, row: &Row) -> Result<(), Memory>
         ensures { OnOk result (out.new.items ≡ out.old.items ++ template_text row.now self.now) }
     {
         for piece in &self.pieces {
             out.extend_from_slice(piece.front.as_slice())?;
-            push_own(out, room, row.get(&piece.label))?;
+            push_own(out, row.get(&piece.label))?;
         }
         out.extend_from_slice(self.end.as_slice())?;
         Ok(())
     }
 }
 
-fn push_own(out: &mut Vec<u8>, room: &mut Vec<u8>, value: Option<&Scalar>) -> Result<(), Memory>
+fn push_own(out: &mut Vec<u8>, value: Option<&Scalar>) -> Result<(), Memory>
     ensures { OnOk result (out.new.items ≡ out.old.items ++ field_bytes (own_text (option_map (λ v. v.now) value.entry))) }
 {
     match value {
         None => Ok(()),
-        Some(Scalar::Text(text)) => push_field(out, text.as_bytes()),
-        Some(value) => {
-            room.clear();
-            push_text(room, value)?;
-            push_field(out, room.as_slice())
-        }
+        Some(value) => push_scalar(out, value),
+    }
+}
+
+/// Adds the field of a value. Only a text may need quotes.
+fn push_scalar(out: &mut Vec<u8>, value: &Scalar) -> Result<(), Memory>
+    ensures { OnOk result (out.new.items ≡ out.old.items ++ field_bytes (scalar_text value.now)) }
+{
+    match value {
+        Scalar::Null => Ok(()),
+        Scalar::Bool(flag) => push_bool(out, flag),
+        Scalar::Int(number) => push_int(out, number),
+        Scalar::Text(text) => push_field(out, text.as_bytes()),
+        Scalar::Time(time) => push_time_at(out, time),
     }
 }

@@ -1,5 +1,6 @@
 //! Values as texts.
 ghost use Rattle.std.specs.Prelude.{◌≡◌, ◌++◌, OnOk};
+ghost use Rattle.std.specs.Fmt.{signed_decimal};
 ghost use Rattle.fx_csv.specs.Cells.{bool_text, datatype, scalar_text};
 ghost use Rattle.fx_time.specs.Time.{time_text};
 
@@ -14,16 +15,28 @@ pub(crate) fn push_text(out: &mut Vec<u8>, value: &Scalar) -> Result<(), Memory>
 {
     match value {
         Scalar::Null => Ok(()),
-        Scalar::Bool(flag) => Ok(out.extend_from_slice(bool_text(*flag))?),
-        Scalar::Int(number) => {
-            Ok(out.extend_from_slice(Buffer::new().format(*number).as_bytes())?)
-        }
+        Scalar::Bool(flag) => push_bool(out, flag),
+        Scalar::Int(number) => push_int(out, number),
         Scalar::Text(text) => Ok(out.extend_from_slice(text.as_bytes())?),
         Scalar::Time(time) => push_time_at(out, time),
     }
 }
 
-fn push_time_at(out: &mut Vec<u8>, time: &i64) -> Result<(), Memory>
+pub(crate) fn push_bool(out: &mut Vec<u8>, flag: &bool) -> Result<(), Memory>
+    ensures { OnOk result (out.new.items ≡ out.old.items ++ bool_text flag.now) }
+{
+    Ok(out.extend_from_slice(bool_text(*flag))?)
+}
+
+/// Adds an integer in decimal.
+pub(crate) fn push_int(out: &mut Vec<u8>, number: &i64) -> Result<(), Memory>
+    ensures { OnOk result (out.new.items ≡ out.old.items ++ signed_decimal number.now) }
+{
+    Ok(out.extend_from_slice(Buffer::new().format(*number).as_bytes())?)
+}
+
+/// Adds a time as RFC 3339 writes it.
+pub(crate) fn push_time_at(out: &mut Vec<u8>, time: &i64) -> Result<(), Memory>
     ensures { OnOk result (out.new.items ≡ out.old.items ++ time_text time.now) }
 {
     push_time(out, *time)
