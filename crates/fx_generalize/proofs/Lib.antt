@@ -3,5 +3,6 @@ pub mod KindLaws
 pub mod NameLaws
 pub mod OpenLaws
 pub mod ReadLaws
+pub mod SameLaws
 pub mod SolvedLaws
 pub mod UseLaws

@@ -1,5 +1,5 @@
 -- Kept types: their instances are the types that the terms stand for.
-use Rattle.std.proofs.Common.{◌≡◌, ◌↔◌, inl, inr, refl, sym, ap, subst, ◌∙◌, ℕ, ◌+◌, ◌≤◌, ◌<◌, ◌==◌, eqb-true, Bool, true, false, List, [], ◌∷◌, ◌++◌, take, length, get_or, Option, None, Some}
+use Rattle.std.proofs.Common.{◌≡◌, ◌↔◌, inl, inr, refl, sym, ap, subst, ◌∙◌, ℕ, ◌+◌, ◌≤◌, ◌<◌, ◌==◌, eqb-true, Bool, true, false, List, [], ◌∷◌, ◌++◌, take, length, get_or, Option, None, Some, arith, zero, suc}
 use Rattle.std.proofs.lemmas.List.{take_more}
 use mathlib.Core.Bool.{true≢false}
 use Rattle.std.specs.Prelude.{◌&&◌}
@@ -185,6 +185,14 @@ module _ (e : Entries) (m : Names) where
           (both s).1 (before.1 s q o solved also through beside was.0 k, subst IsType (sym (apart_same e m a apart s o beside (term t) u reading solved also)) was.1)),
     )
 
+    -- a term that is kept already
+    pub same_covered : (u : Ty) (vs : List Ty) → vs ≡ us → IsReading e m (term t) (term u) → ((q : Solution) → AreTypes q vs → IsType (ground q (term u))) → CoversTypes e m (take (i + 1) ts) us
+    same_covered u vs same reading there = (
+      λ s q solved through h. before.0 s q solved through ((both s).0 h).0,
+      λ s q o solved also through beside h k. (let was : AreTypes o (take i ts) × IsType (ground o (term t)) = (both o).0 h in
+          (both s).1 (before.1 s q o solved also through beside was.0 k, subst IsType (reading s q solved through) (there q (subst (AreTypes q) (sym same) k)))),
+    )
+
   pub all_covered : (ts : List Ty) (i : ℕ) (us : List Ty) → length ts ≤ i → CoversTypes e m (take i ts) us → CoversTypes e m ts us
   all_covered ts i us le h = subst (λ d. CoversTypes e m d us) (take_all ts i le) h
 
@@ -253,3 +261,9 @@ module _ (b : Bindings) (ks : List sorts.Sorts) (m : Names) (kinds : List VarBou
             ),
             reading h.0 (read_by m h.0) solved through ∙ h.2,
           )
+
+-- one of the terms
+pub type_at : (s : Solution) (ts : List Ty) (i : ℕ) (t : Ty) → i < length ts → t ≡ get_or ts i t → AreTypes s ts → IsType (ground s (term t))
+type_at s [] i t lt at h = absurd (omega arith)
+type_at s (u ∷ ts) zero t lt at h = subst (λ x. IsType (ground s (term x))) (sym at) h.0
+type_at s (u ∷ ts) (suc i) t lt at h = type_at s ts i t (omega arith) at h.1

@@ -8,6 +8,7 @@ mod ends;
 mod kinds;
 mod names;
 mod read;
+mod same;
 mod solved;
 mod used;
 

@@ -1,7 +1,10 @@
 //! What is kept of a type without the equations that it was found by.
 
 ghost use Rattle.std.specs.Prelude.{◌≡◌, true, IfOk};
+ghost use Rattle.fx_types.specs.Instance.{Solution, ground};
 ghost use Rattle.fx_types.specs.Shape.{term};
+ghost use Rattle.fx_types.specs.Size.{IsType};
+ghost use Rattle.fx_unify.specs.Judge.{AreTypes};
 ghost use Rattle.fx_unify.specs.Solutions.{HasLeast};
 ghost use Rattle.fx_unify.specs.Store.{entry};
 ghost use Rattle.fx_generalize.specs.Named.{CoversTypes, CanDrop};
@@ -13,6 +16,7 @@ use crate::ends::see_ends;
 use crate::kinds::bounds_of;
 use crate::names::Names;
 use crate::read::Reader;
+use crate::same::same_type;
 use fx_base::{List, Memory};
 use fx_types::Ty;
 use fx_unify::{Bindings, numbers};
@@ -73,7 +77,7 @@ impl Solved {
     }
 }
 
-/// The terms that share a variable with those of the reader.
+/// The terms that share a variable with those of the reader, each once.
 fn keep_types(reader: &Reader, types: &[Ty]) -> Result<List<Ty>, Memory>
     ensures { IfOk result (CoversTypes (entry reader.now.bindings.now.store) reader.now.names.now types.now) }
 {
@@ -83,9 +87,25 @@ fn keep_types(reader: &Reader, types: &[Ty]) -> Result<List<Ty>, Memory>
         if is_apart(reader, &own, ty)? {
             continue;
         }
-        kept.push(reader.read_type(ty, u64::MAX)?)?;
+        let read = reader.read_type(ty, u64::MAX)?;
+        if has_type(kept.as_slice(), &read) {
+            continue;
+        }
+        kept.push(read)?;
     }
     Ok(kept)
+}
+
+/// Whether the type is one of these.
+fn has_type(types: &[Ty], ty: &Ty) -> bool
+    ensures { result ≡ true → (s : Solution) → AreTypes s types.now → IsType (ground s (term ty.now)) }
+{
+    for other in types {
+        if same_type(other, ty) {
+            return true;
+        }
+    }
+    false
 }
 
 /// Whether the term shares no variable with those of the reader.
