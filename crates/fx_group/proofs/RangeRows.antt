@@ -1,18 +1,16 @@
 -- What is left of each table is what its rows make when they are set and regrouped.
 use Rattle.std.proofs.Common.{◌≡◌, ◌≢◌, ℤ, Bool, true, false, List, [], ◌∷◌, ◌++◌, map, refl, sym, ap, subst, ◌∙◌}
 use Rattle.std.proofs.lemmas.List.{append-nil, map-append}
-use Rattle.std.specs.Prelude.{cond, Option, Some, codes}
+use Rattle.std.specs.Prelude.{cond, Option, Some}
 use Rattle.std.specs.Ordering.{eq_by_cmp}
 use Rattle.std.specs.Option.{unwrap_or}
 use Rattle.std.specs.List.{AllByRecursion, filter, flat_map}
 use Rattle.std.specs.FinMap as fin
 use Rattle.fx_value.specs.Ends.{Gives, Stuck}
-use Rattle.fx_data.specs.Gathered.{grouped, gathered}
 use Rattle.fx_data.specs.Key.{key_cmp}
 use Rattle.fx_data.specs.Regrouped.{joined, all_joined, alone, bare}
 use Rattle.fx_data.specs.Table.{HasKey, IsLawfulTable}
 use Rattle.fx_data.specs.declared.key.Key.{Key}
-use Rattle.fx_data.specs.declared.keyed_row.KeyedRow.{KeyedRow}
 use Rattle.fx_data.specs.declared.table.Table.{Table}
 use Rattle.fx_data.proofs.Gathered.{gathered_same}
 use Rattle.fx_data.proofs.Keys.{key_cmp_total, key_same}
