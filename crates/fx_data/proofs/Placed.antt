@@ -1,19 +1,19 @@
 -- Rows put behind those of a table among tables whose keys rise.
-use Rattle.std.proofs.Common.{◌≡◌, ℕ, suc, zero, ◌+◌, ◌<◌, ◌≤◌, Bool, true, false, List, [], ◌∷◌, ◌++◌, map, length, get_or, refl, sym, ap, subst, ◌∙◌, arith, append_assoc}
+use Rattle.std.proofs.Common.{◌≡◌, ℕ, suc, zero, ◌<◌, ◌≤◌, Bool, true, false, List, [], ◌∷◌, ◌++◌, map, length, get_or, refl, sym, ap, subst, ◌∙◌, arith}
 use Rattle.std.proofs.lemmas.List.Sorted.{searchable_from_sorted}
 use Rattle.std.proofs.Math.ListN.{set}
 use Rattle.std.specs.Prelude.{cond, Option, Some, Result, Ok, Err, IfOk, IfErr}
 use Rattle.std.specs.declared.cmp.Ordering.TheVariants.{Less, Equal, Greater}
-use Rattle.std.specs.Ordering.{is_eq, eq_by_cmp, ordering_index}
+use Rattle.std.specs.Ordering.{is_eq, eq_by_cmp, ordering_reverse}
 use Rattle.std.specs.Option.{unwrap_or}
 use Rattle.std.specs.Cmp.{Equal-is}
-use Rattle.std.specs.List.{AllByRecursion, HoldsAt}
-use Rattle.std.specs.List.Sorted.{IsStrictlySortedBy, IsNonDecreasingBy, IsPartitionPoint, IsBinarySearchResult, IsSearchInRange}
+use Rattle.std.specs.List.{AllByRecursion, AllWithin, HoldsAt, insert}
+use Rattle.std.specs.List.Sorted.{IsStrictlySortedBy, IsBinarySearchResult, IsSearchInRange}
 use Rattle.std.specs.FinMap as fin
 use Rattle.fx_data.specs.Ascending.{Rise}
 use Rattle.fx_data.specs.Gathered.{grouped}
 use Rattle.fx_data.specs.Key.{key_cmp}
-use Rattle.fx_data.specs.Placed.{KeyAt, with_rows_at}
+use Rattle.fx_data.specs.Placed.{KeyAt, with_rows_at, BelongsIn}
 use Rattle.fx_data.specs.Regrouped.{joined, all_joined}
 use Rattle.fx_data.specs.Table.{HasKey, IsLawfulTable}
 use Rattle.fx_data.specs.declared.key.Key.{Key}
@@ -115,33 +115,70 @@ found_at key [] i within h = absurd (omega arith)
 found_at key (t ∷ ts) zero within h = key_same t.key key (h t)
 found_at key (t ∷ ts) (suc i) within h = found_at key ts i (omega arith) (λ d. h d)
 
-keys_push : (k : Key) (ts : List Table) (t : Table) → AllByRecursion (λ q. key_cmp k q ≡ Less) (map (λ u. u.key) ts) → key_cmp k t.key ≡ Less
-    → AllByRecursion (λ q. key_cmp k q ≡ Less) (map (λ u. u.key) (ts ++ t ∷ []))
-keys_push k [] t h below = (below, tt)
-keys_push k (u ∷ ts) t h below = (h.0, keys_push k ts t h.1 below)
+-- ---- a table put between others
 
-rise_push : (ts : List Table) (t : Table) → ((k : ℕ) (d : Table) → 0 ≤ k → k < length ts → key_cmp (get_or ts k d).key t.key ≡ Less) → Rise ts → Rise (ts ++ t ∷ [])
-unfolding IsStrictlySortedBy
-rise_push [] t below rise = (tt, tt)
-rise_push (u ∷ ts) t below rise =
-    (keys_push u.key ts t rise.0 (below 0 u (omega arith) (omega arith)), rise_push ts t (λ k d low high. below (suc k) d (omega arith) (omega arith)) rise.1)
+belongs : (key : Key) (ts : List Table) (i : ℕ) → i ≤ length ts → AllWithin (λ t. key_cmp t.key key ≡ Less) ts 0 i → AllWithin (λ t. key_cmp t.key key ≡ Greater) ts i (length ts)
+    → BelongsIn key ts i
+belongs key [] i within lower greater = omega arith
+belongs key (t ∷ ts) zero within lower greater =
+    (greater 0 t (omega arith) (omega arith), belongs key ts zero (omega arith) (λ k d low high. absurd (omega arith)) (λ k d low high. greater (suc k) d (omega arith) (omega arith)))
+belongs key (t ∷ ts) (suc i) within lower greater =
+    (lower 0 t (omega arith) (omega arith), belongs key ts i (omega arith) (λ k d low high. lower (suc k) d (omega arith) (omega arith)) (λ k d low high. greater (suc k) d (omega arith) (omega arith)))
 
--- a table behind those whose keys rise, where a search puts it
-pub rise_behind : (ts new : List Table) (t : Table) (i : ℕ) → new ≡ ts ++ t ∷ [] → i ≡ length ts
-    → (IsNonDecreasingBy (λ u. ordering_index (key_cmp u.key t.key)) ts → IsPartitionPoint (λ u. key_cmp u.key t.key ≡ Less) (λ u. key_cmp u.key t.key ≡ Greater) ts i)
-    → Rise ts → Rise new
-rise_behind ts new t i is end parted rise =
-    let parts = parted (searchable_from_sorted key_cmp_total (λ u. u.key) ts t.key (rise_sorted ts rise)) in
-    subst Rise (sym is) (rise_push ts t (λ k d low high. parts.0 k d low (omega (arith, end))) rise)
+pub belongs_within : (key : Key) (ts : List Table) (i : ℕ) → BelongsIn key ts i → i ≤ length ts
+belongs_within key [] i at = omega (arith, at)
+belongs_within key (t ∷ ts) zero at = omega arith
+belongs_within key (t ∷ ts) (suc i) at = let within = belongs_within key ts i at.1 in omega arith
+
+module _ (t : Table) where
+  turned : (u : Table) → key_cmp u.key t.key ≡ Greater → key_cmp t.key u.key ≡ Less
+  turned u above = key_cmp_total.antisymm t.key u.key ∙ ap ordering_reverse above
+
+  none_behind : (ts : List Table) → BelongsIn t.key ts zero → NoneHas t.key ts
+  none_behind [] at = tt
+  none_behind (u ∷ ts) at = (ap is_eq (turned u at.0), none_behind ts at.1)
+
+  all_behind : (ts : List Table) → BelongsIn t.key ts zero → AllByRecursion (λ q. key_cmp t.key q ≡ Less) (map (λ u. u.key) ts)
+  all_behind [] at = tt
+  all_behind (u ∷ ts) at = (turned u at.0, all_behind ts at.1)
+
+  all_joined_in : (groups : Groups) (ts : List Table) (i : ℕ) → BelongsIn t.key ts i → all_joined groups (insert ts i t) ≡ joined (all_joined groups ts) t
+  all_joined_in groups [] zero at = refl
+  all_joined_in groups [] (suc i) at = absurd (omega (arith, at))
+  all_joined_in groups (u ∷ ts) zero at = past groups t (u ∷ ts) (none_behind (u ∷ ts) at)
+  all_joined_in groups (u ∷ ts) (suc i) at = all_joined_in (joined groups u) ts i at.1
+
+  pub joined_in : (ts : List Table) (i : ℕ) → BelongsIn t.key ts i → grouped (insert ts i t) ≡ joined (grouped ts) t
+  joined_in ts i at = sym (joined_empty (insert ts i t)) ∙ all_joined_in fin.empty ts i at ∙ ap (λ g. joined g t) (joined_empty ts)
+
+  above_in : (k : Key) (ts : List Table) (i : ℕ) → i ≤ length ts → AllByRecursion (λ q. key_cmp k q ≡ Less) (map (λ u. u.key) ts) → key_cmp k t.key ≡ Less
+      → AllByRecursion (λ q. key_cmp k q ≡ Less) (map (λ u. u.key) (insert ts i t))
+  above_in k [] zero within h below = (below, tt)
+  above_in k [] (suc i) within h below = absurd (omega arith)
+  above_in k (u ∷ ts) zero within h below = (below, h)
+  above_in k (u ∷ ts) (suc i) within h below = (h.0, above_in k ts i (omega arith) h.1 below)
+
+  pub rise_in : (ts : List Table) (i : ℕ) → BelongsIn t.key ts i → Rise ts → Rise (insert ts i t)
+  unfolding IsStrictlySortedBy
+  rise_in [] zero at rise = (tt, tt)
+  rise_in [] (suc i) at rise = absurd (omega (arith, at))
+  rise_in (u ∷ ts) zero at rise = (all_behind (u ∷ ts) at, rise)
+  rise_in (u ∷ ts) (suc i) at rise = (above_in u.key ts i (belongs_within t.key ts i at.1) rise.0 at.0, rise_in ts i at.1 rise.1)
+
+  pub lawful_in : (ts : List Table) (i : ℕ) → BelongsIn t.key ts i → IsLawfulTable t → AllByRecursion IsLawfulTable ts → AllByRecursion IsLawfulTable (insert ts i t)
+  lawful_in [] zero at lawful each = (lawful, tt)
+  lawful_in [] (suc i) at lawful each = absurd (omega (arith, at))
+  lawful_in (u ∷ ts) zero at lawful each = (lawful, each)
+  lawful_in (u ∷ ts) (suc i) at lawful each = (each.0, lawful_in ts i at.1 lawful each.1)
+
+-- ---- what a search finds
 
 pub search_found : (key : Key) (ts : List Table) (r : Result ℕ ℕ) → IsSearchInRange r (length ts) → IsBinarySearchResult (λ t. key_cmp t.key key) ts r → IfOk r (KeyAt key ts)
 search_found key ts (Ok i) within h = found_at key ts i within h
 search_found key ts (Err i) within h = tt
 
-pub search_behind : (key : Key) (ts : List Table) (r : Result ℕ ℕ) → IsBinarySearchResult (λ t. key_cmp t.key key) ts r → Rise ts
-    → IfErr r (λ i. i ≡ length ts → (t : Table) → t.key ≡ key → Rise (ts ++ t ∷ []))
-search_behind key ts (Ok i) h rise = tt
-search_behind key ts (Err i) h rise = λ end t same.
-    rise_behind ts (ts ++ t ∷ []) t i refl end
-    (subst (λ (k : Key). IsNonDecreasingBy (λ u. ordering_index (key_cmp u.key k)) ts → IsPartitionPoint (λ u. key_cmp u.key k ≡ Less) (λ u. key_cmp u.key k ≡ Greater) ts i) (sym same) h)
-    rise
+pub search_missed : (key : Key) (ts : List Table) (r : Result ℕ ℕ) → IsSearchInRange r (length ts) → IsBinarySearchResult (λ t. key_cmp t.key key) ts r → Rise ts → IfErr r (BelongsIn key ts)
+search_missed key ts (Ok i) within h rise = tt
+search_missed key ts (Err i) within h rise =
+    let parts = h (searchable_from_sorted key_cmp_total (λ u. u.key) ts key (rise_sorted ts rise)) in
+    belongs key ts i within parts.0 parts.1

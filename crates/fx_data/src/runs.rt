@@ -1,12 +1,11 @@
-ghost use Rattle.std.specs.Prelude.{◌≡◌, ◌<◌, [], ◌∷◌, ◌++◌, length, map, vec_len, IfOk, IfErr, IfSome, IsTrue, OnOk};
+ghost use Rattle.std.specs.Prelude.{◌≡◌, ◌<◌, [], ◌∷◌, ◌++◌, map, vec_len, IfOk, IfErr, IfSome, IsTrue, OnOk};
 ghost use Rattle.std.specs.List.{AllByRecursion};
 ghost use Rattle.std.specs.FinMap as fin;
 ghost use Rattle.fx_data.specs.Ascending.{Rise};
 ghost use Rattle.fx_data.specs.Gathered.{grouped, table_of};
-ghost use Rattle.fx_data.specs.Placed.{KeyAt, with_rows_at};
+ghost use Rattle.fx_data.specs.Placed.{KeyAt, BelongsIn, with_rows_at};
 ghost use Rattle.fx_data.specs.Regrouped.{alone, joined, new_key};
 ghost use Rattle.fx_data.specs.Table.{HasRisingLabels, IsLawfulTable};
-ghost use Rattle.fx_data.specs.declared.table.Table.{Table as AnyTable};
 
 use crate::groups::collect;
 use crate::key::{Key, key_order};
@@ -17,6 +16,9 @@ use fx_base::{List, Memory};
 use fx_value::Row;
 use std::alloc::Global;
 use std::marker::Model;
+
+/// How many tables may be shifted to make room for a new one.
+const SHIFTED: usize = 1024;
 
 /// Rows on their way to their tables, as runs of rows that have one key. Contracts see the map from
 /// keys to rows.
@@ -193,7 +195,7 @@ fn with_placed_row(
 fn place_of(tables: &[Table], key: &Key) -> Result<usize, usize>
     requires { Rise tables.now }
     ensures found { IfOk result (KeyAt key.now tables.now) }
-    ensures behind { IfErr result (λ i. i ≡ length tables.now → (t : AnyTable) → t.key ≡ key.now → Rise (tables.now ++ t ∷ [])) }
+    ensures missed { IfErr result (BelongsIn key.now tables.now) }
 {
     tables.binary_search_by(|table| key_order(&table.key, key))
 }
@@ -213,16 +215,31 @@ fn with_placed_table(mut tables: Vec<Table>, table: Table) -> Result<Runs, Memor
                 place: Some(place),
             })
         }
-        Err(place) => {
-            let place = if place == tables.len() {
-                Some(place)
-            } else {
-                None
-            };
-            let tables = with_table(tables, table)?;
-            Ok(Runs { tables, place })
-        }
+        Err(place) => with_new_table(tables, place, table),
     }
+}
+
+/// The runs with a new table, which belongs at this place. Where many tables would have to make
+/// room for it, it goes to the end, and the keys rise no more.
+fn with_new_table(mut tables: Vec<Table>, place: usize, table: Table) -> Result<Runs, Memory>
+    requires place { BelongsIn table.key tables.items place }
+    requires rising { Rise tables.items }
+    requires each { AllByRecursion IsLawfulTable tables.items }
+    requires lawful { IsLawfulTable table }
+    ensures { IfOk result (λ runs. runs ≡ joined (grouped tables.items) table) }
+{
+    if tables.len() - place > SHIFTED {
+        let tables = with_table(tables, table)?;
+        return Ok(Runs {
+            tables,
+            place: None,
+        });
+    }
+    tables.insert(place, table)?;
+    Ok(Runs {
+        tables,
+        place: Some(place),
+    })
 }
 
 /// The table with one more row.

@@ -1,4 +1,4 @@
-use Rattle.std.proofs.Common.{◌≡◌, List, sym, ap, subst, ◌∙◌, arith}
+use Rattle.std.proofs.Common.{List, sym, ap, subst, ◌∙◌, arith}
 use Rattle.std.specs.List.{AllByRecursion}
 use Rattle.fx_data.specs.Ascending.{Rise}
 use Rattle.fx_data.specs.Gathered.{grouped}
@@ -6,7 +6,6 @@ use Rattle.fx_data.specs.Placed.{KeyAt}
 use Rattle.fx_data.specs.Table.{IsLawfulTable}
 use Rattle.fx_data.specs.declared.table.Table.{Table}
 use Rattle.fx_data.proofs.Placed.{joined_at, rise_at, lawful_at, at_within}
-use Rattle.fx_data.proofs.Regrouped.{pushed}
 use Rattle.fx_data.proofs.runs.with_placed_table.Goals as goal
 
 pub push_rows_at-requires : goal.push_rows_at-requires
@@ -27,6 +26,3 @@ pub returns-in_ok-push_rows_at-in-Ok : goal.returns-in_ok-push_rows_at-in-Ok
 returns-in_ok-push_rows_at-in-Ok c =
     let at = subst (λ (ts : List Table). KeyAt c.args.table.key ts c.in-Ok.place) c.as_slice.ensures.value c.in-Ok.ensures.found in
     ap grouped c.in_ok-push_rows_at-in-Ok.ensures ∙ joined_at c.args.table.key c.args.table.rows c.args.tables.items c.in-Ok.place c.requires.rising at
-
-pub returns-in_ok-tables-in-Err : goal.returns-in_ok-tables-in-Err
-returns-in_ok-tables-in-Err c = pushed c.args.tables.items c.in_ok-tables-in-Err.tables.items c.args.table c.in_ok-tables-in-Err.ensures
