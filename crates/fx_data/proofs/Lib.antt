@@ -3,6 +3,7 @@ pub mod Gathered
 pub mod GatheredRows
 pub mod Keys
 pub mod Lawful
+pub mod Placed
 pub mod Regrouped
 pub mod Merged
 pub mod Rise

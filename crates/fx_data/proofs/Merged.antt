@@ -1,5 +1,5 @@
 -- Tables in the order of their keys, and neighbours with one key as one table.
-use Rattle.std.proofs.Common.{◌≡◌, ℕ, suc, ◌+◌, ◌<◌, Bool, true, false, List, [], ◌∷◌, ◌++◌, map, length, get_or, refl, sym, ap, subst, ◌∙◌, arith, append_assoc}
+use Rattle.std.proofs.Common.{◌≡◌, ℕ, suc, zero, ◌+◌, ◌<◌, Bool, true, false, List, [], ◌∷◌, ◌++◌, map, length, get_or, refl, sym, ap, subst, ◌∙◌, arith, append_assoc}
 use Rattle.std.proofs.lemmas.List.{same_from_push}
 use Rattle.std.proofs.lemmas.List.Elements.{All-nil, All-cons}
 use Rattle.std.proofs.lemmas.List.Sorted.{All-permutation, sorted_far}
@@ -81,6 +81,16 @@ ascends (t ∷ ts) sorted = (
   none_below t ts (λ j d below. sorted_far lower lower_orders (t ∷ ts) sorted 0 (suc j) d (omega arith) (omega arith)),
   ascends ts (λ k d low high. let next : suc k + 1 ≡ suc (k + 1) = omega arith in subst (λ n. lower (get_or (t ∷ ts) n d) (get_or ts k d) ≡ false) next (sorted (suc k) d (omega arith) (omega arith))),
 )
+
+pub rise_sorted : (ts : List Table) → Rise ts → IsSortedBy lower ts
+unfolding IsStrictlySortedBy
+rise_sorted [] rise = λ k d low high. absurd (omega arith)
+rise_sorted (t ∷ []) rise = λ k d low high. absurd (omega arith)
+rise_sorted (t ∷ u ∷ ts) rise = λ k d low high. elim k as (λ n. n + 1 < suc (suc (length ts)) → lower (get_or (t ∷ u ∷ ts) (n + 1) d) (get_or (t ∷ u ∷ ts) n d) ≡ false) [
+  | zero ↦ λ _. one_way key_cmp key_cmp_total t.key u.key Less rise.0.0 refl
+  | suc n ↦ λ below. let next : suc (n + 1) ≡ suc n + 1 = omega arith in
+      subst (λ m. lower (get_or (t ∷ u ∷ ts) m d) (get_or (u ∷ ts) n d) ≡ false) next (rise_sorted (u ∷ ts) rise.1 n d (omega arith) (omega arith))
+] high
 
 -- ---- a sort keeps what holds of all
 

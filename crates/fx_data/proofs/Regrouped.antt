@@ -28,12 +28,12 @@ use Rattle.fx_data.proofs.Lawful.{all-append, bare_lawful, gathered_lawful, lawf
 abbrev pub Row : Type 0
 Row = FinMap text_cmp Scalar
 
-abbrev Groups : Type 0
+abbrev pub Groups : Type 0
 Groups = FinMap key_cmp Rows
 
 -- ---- groups with one more table
 
-get-joined : (groups : Groups) (t : Table) (k : Key)
+pub get-joined : (groups : Groups) (t : Table) (k : Key)
     → fin.get (joined groups t) k ≡ cond (eq_by_cmp key_cmp k t.key) (Some (unwrap_or (fin.get groups k) [] ++ t.rows)) (fin.get groups k)
 unfolding joined
 get-joined groups t k =

@@ -1,5 +1,5 @@
 -- Tables whose keys rise, or don't fall.
-use Rattle.std.specs.Prelude.{◌≡◌, false, List, [], ◌∷◌, ◌++◌, map}
+use Rattle.std.specs.Prelude.{◌≡◌, ℕ, false, List, [], ◌∷◌, ◌++◌, map, Option, None, Some}
 use Rattle.std.specs.Ordering.{is_lt}
 use Rattle.std.specs.List.{AllByRecursion}
 use Rattle.std.specs.List.Sorted.{IsStrictlySortedBy}
@@ -10,6 +10,11 @@ use Rattle.fx_data.specs.declared.table.Table.{Table}
 -- the keys of the tables rise strictly
 abbrev pub Rise : List Table → Type 0
 Rise ts = IsStrictlySortedBy key_cmp (map (λ t. t.key) ts)
+
+-- where there is a place, they do
+abbrev pub RiseWhere : Option ℕ → List Table → Type 0
+RiseWhere None ts = Unit {0}
+RiseWhere (Some place) ts = Rise ts
 
 -- no table has a key below this one
 abbrev pub NoneBelow : Key → List Table → Type 0

@@ -2,6 +2,7 @@ pub mod Ascending
 pub mod Columns
 pub mod Gathered
 pub mod Key
+pub mod Placed
 pub mod Regrouped
 pub mod Shared
 pub mod Table

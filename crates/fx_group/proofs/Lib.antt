@@ -2,6 +2,7 @@ pub mod Gathering
 pub mod Grouped
 pub mod Kept
 pub mod Patterns
+pub mod RangeRows
 pub mod Ranged
 pub mod Steady
 pub mod Turned

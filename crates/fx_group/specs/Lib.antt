@@ -4,6 +4,7 @@ pub mod Filter
 pub mod Group
 pub mod Map
 pub mod Range
+pub mod RangeRows
 pub mod Turned
 pub mod Union
 pub mod Wanted

@@ -10,6 +10,6 @@ mod uniting;
 
 pub use grouping::{group_by, group_except};
 pub use keeping::filter;
-pub use ranging::range;
+pub use ranging::{range, range_regroups};
 pub use turning::map;
 pub use uniting::union;

@@ -1,5 +1,5 @@
-ghost use Rattle.std.specs.Prelude.{◌≡◌, ◌≢◌, [], List as AnyList, IfOk};
-ghost use Rattle.std.specs.List.{filter, flat_map};
+ghost use Rattle.std.specs.Prelude.{◌≡◌, ◌≢◌, ℤ, [], List as AnyList, IfOk};
+ghost use Rattle.std.specs.List.{filter, flat_map, AllByRecursion};
 ghost use Rattle.fx_value.specs.Ends.{End, Gives, Stuck};
 ghost use Rattle.fx_data.specs.Gathered.{grouped};
 ghost use Rattle.fx_data.specs.Regrouped.{joined, all_joined};
@@ -7,6 +7,7 @@ ghost use Rattle.fx_data.specs.Table.{IsLawfulTable};
 ghost use Rattle.fx_data.specs.declared.table.Table.{Table as AnyTable};
 ghost use Rattle.fx_group.specs.Bounds.{AreBounds, lies_between, table_left};
 ghost use Rattle.fx_group.specs.Range.{bounded, ranged};
+ghost use Rattle.fx_group.specs.RangeRows.{range_regrouped};
 
 use fx_base::{List, Memory, Text};
 use fx_data::{Key, Runs, Table, Tables, key_with};
@@ -159,3 +160,9 @@ pub fn range(alloc: Global, tables: Tables, start: i64, stop: i64) -> Result<Tab
     let runs = runs_left(alloc, &bounds, tables)?;
     runs.into_tables(alloc)
 }
+
+/// The law of `range`: on lawful tables it is each row between the times with both columns set, and
+/// both labels added to its key, regrouped; tables that had no rows stay under such a key.
+pub fn range_regroups()
+    ensures { (start stop : ℤ) (tables : AnyList AnyTable) → AllByRecursion IsLawfulTable tables → ◌≢◌ {A = End (AnyList AnyTable)} (ranged start stop tables) Stuck → ranged start stop tables ≡ Gives (range_regrouped start stop tables) 0 }
+{}
