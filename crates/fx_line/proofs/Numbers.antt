@@ -45,16 +45,16 @@ same_test : (s : List ℕ) (n f : ℕ) → 1 ≤ f → is_time (signed s (min n 
 same_test s n f some =
     time_test s (min n (2 ^ 64 - 1) * f)
     ∙ same_bool _ _
-        (λ h. ap (λ x. leb (x * f) (2 ^ 63 - 2)) (sym (held n f some (leb-true _ _ h))) ∙ h)
-        (λ h. ap (λ x. leb (x * f) (2 ^ 63 - 2)) (held_too n f some (leb-true _ _ h)) ∙ h)
+    (λ h. ap (λ x. leb (x * f) (2 ^ 63 - 2)) (sym (held n f some (leb-true _ _ h))) ∙ h)
+    (λ h. ap (λ x. leb (x * f) (2 ^ 63 - 2)) (held_too n f some (leb-true _ _ h)) ∙ h)
     ∙ sym (time_test s (n * f))
 
 some_scale : (factor : ℤ) → is_factor factor ≡ true → 1 ≤ scale_of factor
 some_scale (pos n) h =
     ⊎_elim (λ (e : eqb n 1 ≡ true). omega (arith, eqb-true n 1 e))
     (λ rest. ⊎_elim (λ (e : eqb n 1000 ≡ true). omega (arith, eqb-true n 1000 e))
-        (λ last. ⊎_elim (λ (e : eqb n 1000000 ≡ true). omega (arith, eqb-true n 1000000 e)) (λ (e : eqb n 1000000000 ≡ true). omega (arith, eqb-true n 1000000000 e)) (or_cases _ _ last))
-        (or_cases (eqb n 1000) _ rest))
+    (λ last. ⊎_elim (λ (e : eqb n 1000000 ≡ true). omega (arith, eqb-true n 1000000 e)) (λ (e : eqb n 1000000000 ≡ true). omega (arith, eqb-true n 1000000000 e)) (or_cases _ _ last))
+    (or_cases (eqb n 1000) _ rest))
     (or_cases (eqb n 1) _ h)
 some_scale (negsuc n) h = absurd (false≢true h)
 

@@ -76,7 +76,7 @@ value_len_at side.Field p r h e =
     ⊎_elim
     (λ (text : is_text p.value ≡ true). text_value_len p.value r text)
     (λ (bare : (list_all is_bare p.value && (is_integer p.value || (is_unsigned p.value || (is_float p.value || (is_true p.value || is_false p.value))))) ≡ true).
-        bare_value_len p.value r (and_parts _ _ bare).0 e)
+    bare_value_len p.value r (and_parts _ _ bare).0 e)
     (or_cases _ _ (and_parts _ _ h).1)
 
 pub key_is_word : (s : Side) (p : Pair) → is_pair s p ≡ true → is_word word.Name p.key ≡ true

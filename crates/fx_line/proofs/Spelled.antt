@@ -65,7 +65,7 @@ fields_flush : (fs : List Pair) (r : List ℕ) → are_fields fs ≡ true → Is
 fields_flush [] r h = absurd (false≢true h)
 fields_flush (f ∷ fs) r h =
     let joined : (pair_text f ++ flat_map more_text fs) ++ r ≡ f.key ++ 61 ∷ ((f.value ++ flat_map more_text fs) ++ r) =
-        ap (λ x. x ++ r) (append_assoc f.key (61 ∷ f.value) (flat_map more_text fs)) ∙ append_assoc f.key (61 ∷ (f.value ++ flat_map more_text fs)) r in
+    ap (λ x. x ++ r) (append_assoc f.key (61 ∷ f.value) (flat_map more_text fs)) ∙ append_assoc f.key (61 ∷ (f.value ++ flat_map more_text fs)) r in
     subst IsFlush (sym joined) (word_flush f.key (61 ∷ ((f.value ++ flat_map more_text fs) ++ r)) (and_parts _ _ (and_parts _ _ h).0).0)
 
 digit_flush : (b : ℕ) → is_digit b ≡ true → eqb b 32 ≡ false
@@ -203,7 +203,7 @@ read_spelled body w h =
       spelled = sym (front-back word.Measurement false body)
           ∙ ap (λ m. m ++ back word.Measurement false body) h.measurement
           ∙ ap (λ r. w.measurement ++ r) (h.tags.spelled
-              ∙ ap (λ r. flat_map more_text w.tags ++ r) (g.joined ∙ ap (λ r. g.gap ++ r) (h.fields.spelled ∙ ap (λ r. fields_text w.fields ++ r) t.spelled)));
+          ∙ ap (λ r. flat_map more_text w.tags ++ r) (g.joined ∙ ap (λ r. g.gap ++ r) (h.fields.spelled ∙ ap (λ r. fields_text w.fields ++ r) t.spelled)));
       gap_is = g.gap_is;
       later_gap_is = t.gap_is;
       measurement = h.is_name;
@@ -246,7 +246,7 @@ pub no_time : (body : List ℕ) (ts : List Pair) (tagged : List ℕ) (fs : List 
 no_time body ts tagged fs behind tags fields none w h =
     let r = spelled_read body w h in
     let its : Fields (without_spaces tagged) w.fields r.behind =
-        subst (λ (x : List ℕ). Fields (without_spaces x) w.fields r.behind) (sym (same_more side.Tag (back word.Measurement false body) ts w.tags tagged r.tagged tags r.tags).1) r.fields in
+    subst (λ (x : List ℕ). Fields (without_spaces x) w.fields r.behind) (sym (same_more side.Tag (back word.Measurement false body) ts w.tags tagged r.tagged tags r.tags).1) r.fields in
     none-some w.time (sym none ∙ ap time_at (same_fields (without_spaces tagged) fs w.fields behind r.behind fields its).1 ∙ r.time)
 
 -- pairs that are put behind others

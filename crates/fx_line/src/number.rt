@@ -120,5 +120,10 @@ pub fn to_int(bytes: &[u8]) -> Option<i64>
     ensures fits { is_some result ≡ is_int (integer_of bytes.now) }
 {
     let magnitude = i128::from(natural(without_minus(bytes)));
-    i64::try_from(if is_negative(bytes) { -magnitude } else { magnitude }).ok()
+    i64::try_from(if is_negative(bytes) {
+        -magnitude
+    } else {
+        magnitude
+    })
+    .ok()
 }

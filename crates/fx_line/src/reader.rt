@@ -47,11 +47,7 @@ fn read_tags(alloc: Global, parts: &LineParts<'_>) -> Result<Option<Vec<Tag>>, M
 }
 
 /// The points of a line by its parts, or why they are refused.
-fn read_points(
-    alloc: Global,
-    parts: &LineParts<'_>,
-    mode: LineMode,
-) -> Result<LineRead, LineFault>
+fn read_points(alloc: Global, parts: &LineParts<'_>, mode: LineMode) -> Result<LineRead, LineFault>
     requires texts { AreTexts parts.now }
     requires few { length parts.now.fields < 4294967296 }
     requires factor { IsTrue (is_factor mode.factor) }

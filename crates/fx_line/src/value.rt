@@ -3,9 +3,7 @@ ghost use Rattle.std.specs.List.{list_all};
 ghost use Rattle.fx_base.specs.Text.{same_text};
 ghost use Rattle.fx_line.specs.Value.{is_count, is_integer, is_unsigned, behind_point, is_exponent, is_float, is_true, is_false, is_text, is_bare, is_value};
 
-use crate::number::{
-    begins_with_digit, behind_digits, is_digits, without_minus, without_sign,
-};
+use crate::number::{begins_with_digit, behind_digits, is_digits, without_minus, without_sign};
 use crate::word::Word;
 
 fn is(value: &[u8], word: &[u8]) -> bool
@@ -66,13 +64,21 @@ pub fn is_float(value: &[u8]) -> bool
 pub fn is_true(value: &[u8]) -> bool
     ensures { result ≡ is_true value.now }
 {
-    is(value, b"t") || is(value, b"T") || is(value, b"true") || is(value, b"True") || is(value, b"TRUE")
+    is(value, b"t")
+        || is(value, b"T")
+        || is(value, b"true")
+        || is(value, b"True")
+        || is(value, b"TRUE")
 }
 
 fn is_false(value: &[u8]) -> bool
     ensures { result ≡ is_false value.now }
 {
-    is(value, b"f") || is(value, b"F") || is(value, b"false") || is(value, b"False") || is(value, b"FALSE")
+    is(value, b"f")
+        || is(value, b"F")
+        || is(value, b"false")
+        || is(value, b"False")
+        || is(value, b"FALSE")
 }
 
 /// Whether a value is a text between quotes.

@@ -2,11 +2,9 @@
 use Rattle.std.proofs.Common.{◌≡◌, ℕ, ◌+◌, ◌<◌, ℤ, pos, false, List, [], ◌∷◌, ◌++◌, length, take, get_or, Some, refl, sym, ap, ap₂, ◌∙◌, arith}
 use Rattle.std.specs.List.{AllZip}
 use Rattle.std.proofs.lemmas.List.{take_more, append_cancel_right}
-use Rattle.fx_time.specs.Calendar.{date_after}
 use Rattle.fx_time.specs.Time.{IsTime}
-use Rattle.fx_time.proofs.CalendarLemmas.{date_after-is}
 use Rattle.fx_time.proofs.FrontLemmas.{some_back}
-use Rattle.fx_time.proofs.ReadLemmas.{IsRead, date_of_moment, moment_at, time_reads}
+use Rattle.fx_time.proofs.ValueLaws.{time_value-is}
 use Rattle.fx_scan.specs.declared.token.Token.{Token}
 use Rattle.fx_scan.specs.declared.token.TokenKind.{TokenKind}
 use Rattle.fx_scan.specs.declared.token.TokenKind.TheVariants as kind
@@ -45,20 +43,8 @@ span_one u m n k l a b =
     let same : a.pairs ≡ b.pairs = spelled_pairs a.pairs b.pairs a.formed b.formed (sym a.text ∙ b.text) in
     (a.months_are ∙ ap all_months same ∙ sym b.months_are, a.nanos_are ∙ ap all_nanos same ∙ sym b.nanos_are)
 
-same_days : (m n : ℕ) → date_after m ≡ date_after n → m ≡ n
-same_days m n e =
-    let first = (date_after-is m).count in
-    let second = (date_after-is n).count in
-    let joined = rw e at first in
-    omega arith
-
 time_one : (u : Bytes) (s t : ℤ) → IsTime u s → IsTime u t → s ≡ t
-time_one u s t a b =
-    let first : IsRead u s = time_reads u s a.0 a.1 in
-    let second : IsRead u t = time_reads u t b.0 b.1 in
-    let moments : first.0 ≡ second.0 = some_back first.0 second.0 (sym first.2 ∙ second.2) in
-    let days : first.1 ≡ second.1 = same_days first.1 second.1 (first.3 ∙ ap date_of_moment moments ∙ sym second.3) in
-    first.4 ∙ ap₂ (λ n m. moment_at n m) days moments ∙ sym second.4
+time_one u s t a b = some_back s t (sym ((time_value-is u s).0 a) ∙ (time_value-is u t).0 b)
 
 tells_one : (k : TokenKind) (u : Bytes) (l m : Lexeme) → Tells k u l → Tells k u m → l ≡ m
 tells_one kind.Name u l m a b = a ∙ sym b

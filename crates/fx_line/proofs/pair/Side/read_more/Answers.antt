@@ -17,7 +17,7 @@ pub loop-after-preserved : goal.loop-after-preserved
 loop-after-preserved c =
     subst (λ (l : List Pair). HasRead c.args.self c.args.bytes.now c.args.pairs.items l c.in-Some-read_pair.read.rest.now) (sym c.in_ok-push.ensures.items)
     (read_next c.args.self c.args.bytes.now c.args.pairs.items c.loop-after.pairs.items c.loop-after.rest.now c.in-Some.after.now c.in-Some-read_pair.read.pair c.in-Some-read_pair.read.rest.now
-        c.loop-after.invariant (sym c.in-Some.ensures) (sym c.in-Some-read_pair.ensures))
+    c.loop-after.invariant (sym c.in-Some.ensures) (sym c.in-Some-read_pair.ensures))
 
 pub returns-clause-none : goal.returns-clause-none
 returns-clause-none c =
