@@ -1,4 +1,7 @@
+pub mod Collected
 pub mod Line
 pub mod Order
-pub mod Parts
+pub mod Reading
 pub mod Stored
+pub mod Value
+pub mod Word

@@ -1,18 +1,21 @@
 //! One line of line protocol to its points, and what stored points are.
 #![tactic(auto)]
 
-mod field;
+mod check;
 mod laws;
 mod line;
 mod number;
 mod order;
+mod pair;
 mod parts;
 mod point;
+mod points;
 mod reader;
-mod tags;
+mod trim;
+mod value;
 mod word;
 
-pub use laws::a_line_has_one_answer;
+pub use laws::{a_line_has_one_answer, bytes_are_text};
 pub use line::{LineError, LineFault, LineMode, LineRead};
 pub use point::{Point, SeriesKey, Tag};
 pub use reader::read_line;

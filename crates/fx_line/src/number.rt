@@ -1,32 +1,22 @@
-ghost use Rattle.std.specs.Prelude.{◌≡◌, ◌+◌, ◌-◌, ◌*◌, ◌^◌, min, IfSome, IfNone, is_some};
+ghost use Rattle.std.specs.Prelude.{◌≡◌, ◌+◌, ◌-◌, ◌*◌, ◌^◌, ◌==◌, min, IfSome, is_some};
 ghost use Rattle.std.specs.List.{list_all};
-ghost use Rattle.fx_line.specs.Line.{Number, is_digit, is_digits, natural, number_of, is_int};
-ghost use Rattle.fx_line.specs.Parts.{IsNumber, cut_sign};
+ghost use Rattle.fx_line.specs.Value.{is_digit, is_digits, without_minus, without_sign, behind_digits, natural, integer_of, is_int, is_stamp};
+ghost use Rattle.fx_line.specs.Word.{begins};
 
-use std::marker::Model;
-
-/// An integer as it stands in a line.
-#[derive(Drop)]
-pub struct NumberBytes<'a> {
-    minus: bool,
-    digits: &'a [u8],
-}
-
-impl<'a> Model for NumberBytes<'a> {
-    ghost use Rattle.fx_line.specs.Line.{Number};
-
-    ghost Value = { Number };
-
-    ghost view = { λ n. record { minus = n.minus; digits = n.digits.now } };
+fn is_digit(byte: u8) -> bool
+    ensures { result ≡ is_digit byte }
+{
+    byte.is_ascii_digit()
 }
 
 fn all_digits(bytes: &[u8]) -> bool
     ensures { result ≡ list_all is_digit bytes.now }
 {
-    bytes.iter().all(|b| b.is_ascii_digit())
+    bytes.iter().all(|b| is_digit(*b))
 }
 
-fn is_digits(bytes: &[u8]) -> bool
+/// Whether the bytes are one digit or more, and nothing else.
+pub fn is_digits(bytes: &[u8]) -> bool
     ensures { result ≡ is_digits bytes.now }
 {
     match bytes {
@@ -35,33 +25,54 @@ fn is_digits(bytes: &[u8]) -> bool
     }
 }
 
-/// The bytes with a sign that they begin with taken off.
-fn cut_sign(bytes: &[u8]) -> NumberBytes<'_>
-    ensures { result ≡ cut_sign bytes.now }
+pub fn begins_with_digit(bytes: &[u8]) -> bool
+    ensures { result ≡ begins is_digit bytes.now }
 {
     match bytes {
-        [b'-', digits @ ..] => NumberBytes {
-            minus: true,
-            digits,
-        },
-        _ => NumberBytes {
-            minus: false,
-            digits: bytes,
-        },
+        [first, ..] => is_digit(*first),
+        [] => false,
     }
 }
 
-/// The integer that the bytes spell.
-pub fn read_number(bytes: &[u8]) -> Option<NumberBytes<'_>>
-    ensures found { IfSome result (λ n. IsNumber bytes.now n) }
-    ensures none { IfNone result ((n : Number) → IsNumber bytes.now n → ⊥) }
+/// The bytes with a `-` that they begin with taken off.
+pub fn without_minus(bytes: &[u8]) -> &[u8]
+    ensures { result.now ≡ without_minus bytes.now }
 {
-    let number = cut_sign(bytes);
-    if is_digits(number.digits) {
-        Some(number)
-    } else {
-        None
+    match bytes {
+        [b'-', rest @ ..] => rest,
+        _ => bytes,
     }
+}
+
+/// The bytes with a sign that they begin with taken off.
+pub fn without_sign(bytes: &[u8]) -> &[u8]
+    ensures { result.now ≡ without_sign bytes.now }
+{
+    match bytes {
+        [b'-' | b'+', rest @ ..] => rest,
+        _ => bytes,
+    }
+}
+
+/// What stands behind the digits that the bytes begin with.
+pub fn behind_digits(bytes: &[u8]) -> &[u8]
+    ensures { result.now ≡ behind_digits bytes.now }
+{
+    let mut rest = bytes;
+    while let [byte, after @ ..] = rest {
+        if !is_digit(*byte) {
+            return rest;
+        }
+        rest = after;
+    }
+    rest
+}
+
+/// Whether the bytes are a timestamp.
+pub fn is_stamp(bytes: &[u8]) -> bool
+    ensures { result ≡ is_stamp bytes.now }
+{
+    is_digits(without_minus(bytes))
 }
 
 /// Below this a number has room for another digit.
@@ -79,24 +90,40 @@ fn with_digit(number: u64, digit: u8) -> u64
     }
 }
 
-/// What digits say, or the greatest number of the type where that is less.
-fn natural(digits: &[u8]) -> u64
-    ensures { result ≡ min (natural digits.now) (2 ^ 64 - 1) }
+/// What the digits say that the bytes begin with, or the greatest number of the type where that is
+/// less.
+pub fn natural(bytes: &[u8]) -> u64
+    ensures { result ≡ min (natural 0 bytes.now) (2 ^ 64 - 1) }
 {
     let mut number = 0;
-    for digit in digits {
-        number = with_digit(number, *digit);
+    let mut rest = bytes;
+    while let [byte, after @ ..] = rest {
+        if !is_digit(*byte) {
+            return number;
+        }
+        number = with_digit(number, *byte);
+        rest = after;
     }
     number
 }
 
-impl<'a> NumberBytes<'a> {
-    /// The value, where it is one of 64 bits with a sign.
-    pub fn to_int(&self) -> Option<i64>
-        ensures exact { IfSome result (λ v. v ≡ number_of self.now) }
-        ensures fits { is_some result ≡ is_int (number_of self.now) }
-    {
-        let magnitude = i128::from(natural(self.digits));
-        i64::try_from(if self.minus { -magnitude } else { magnitude }).ok()
-    }
+/// Whether a `-` stands first.
+pub fn is_negative(bytes: &[u8]) -> bool
+    ensures { result ≡ begins (λ b. b == 45) bytes.now }
+{
+    matches!(bytes, [b'-', ..])
+}
+
+/// The value of an integer, where it is one of 64 bits with a sign.
+pub fn to_int(bytes: &[u8]) -> Option<i64>
+    ensures exact { IfSome result (λ v. v ≡ integer_of bytes.now) }
+    ensures fits { is_some result ≡ is_int (integer_of bytes.now) }
+{
+    let magnitude = i128::from(natural(without_minus(bytes)));
+    i64::try_from(if is_negative(bytes) {
+        -magnitude
+    } else {
+        magnitude
+    })
+    .ok()
 }

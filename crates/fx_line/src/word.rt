@@ -1,90 +1,142 @@
-ghost use Rattle.std.specs.Prelude.{◌≡◌, ℕ, not, IsTrue, List, ◌∷◌, IfOk, IfSome, IfNone};
-ghost use Rattle.std.specs.List.{list_all, position, position_or_len};
-ghost use Rattle.fx_line.specs.Line.{is_letter, is_word_byte, is_name, is_value};
-ghost use Rattle.fx_line.specs.Parts.{IsCut, is_other};
+ghost use Rattle.std.specs.Prelude.{◌≡◌, ◌&&◌, not, false, IfOk};
+ghost use Rattle.std.specs.Str.{IsUtf8};
+ghost use Rattle.fx_line.specs.Word.{ends, yields, is_escape, is_whole, is_word, begins, said, front, back};
 
 use fx_base::{Memory, Text, TextFault};
 use std::alloc::Global;
 
-fn is_letter(byte: u8) -> bool
-    ensures { result ≡ is_letter byte }
-{
-    byte.is_ascii_alphabetic()
+/// Where a word stands, which tells what ends it and what a backslash takes the force from.
+#[derive(Clone, Copy)]
+pub enum Word {
+    Measurement,
+    /// A key, or a tag's value.
+    Name,
+    /// A text between quotes.
+    Quoted,
 }
 
-fn is_word_byte(byte: u8) -> bool
-    ensures { result ≡ is_word_byte byte }
-{
-    matches!(byte, b'a'..=b'z' | b'A'..=b'Z' | b'0'..=b'9' | b'_' | b'-' | b'.')
-}
-
-fn is_other(byte: u8) -> bool
-    ensures { result ≡ is_other byte }
-{
-    !is_word_byte(byte)
-}
-
-fn first_other(bytes: &[u8]) -> Option<usize>
-    ensures { result ≡ position is_other bytes.now }
-{
-    bytes.iter().position(|b| is_other(*b))
-}
-
-/// How many word bytes stand before the first other one.
-fn word_len(bytes: &[u8]) -> usize
-    ensures { result ≡ position_or_len is_other bytes.now }
-{
-    first_other(bytes).unwrap_or(bytes.len())
-}
-
-/// The bytes cut behind the longest run of word bytes that they begin with.
-pub fn take_word(bytes: &[u8]) -> (&[u8], &[u8])
-    ensures { IsCut bytes.now result.0.now result.1.now }
-{
-    bytes.split_at(word_len(bytes))
-}
-
-/// Whether a run of word bytes is a name.
-pub fn is_name(word: &[u8]) -> bool
-    requires { IsTrue (list_all is_word_byte word.now) }
-    ensures { result ≡ is_name word.now }
-{
-    match word {
-        [first, ..] => is_letter(*first),
-        [] => false,
+impl Word {
+    fn ends(self, byte: u8) -> bool
+        ensures { result ≡ ends self byte }
+    {
+        match self {
+            Word::Measurement => byte == b',' || byte == b' ',
+            Word::Name => byte == b',' || byte == b'=' || byte == b' ',
+            Word::Quoted => byte == b'"',
+        }
     }
-}
 
-/// Whether a run of word bytes is a tag's value.
-pub fn is_value(word: &[u8]) -> bool
-    requires { IsTrue (list_all is_word_byte word.now) }
-    ensures { result ≡ is_value word.now }
-{
-    match word {
-        [_, ..] => true,
-        [] => false,
+    fn yields(self, byte: u8) -> bool
+        ensures { result ≡ yields self byte }
+    {
+        match self {
+            Word::Measurement => byte == b',' || byte == b' ',
+            Word::Name => byte == b',' || byte == b'=' || byte == b' ',
+            Word::Quoted => byte == b'"' || byte == b'\\',
+        }
     }
-}
 
-/// What stands behind a byte that the bytes begin with.
-pub fn skip(bytes: &[u8], byte: u8) -> Option<&[u8]>
-    ensures found { IfSome result (λ r. bytes.now ≡ byte ∷ r.now) }
-    ensures none { IfNone result ((r : List ℕ) → bytes.now ≡ byte ∷ r → ⊥) }
-{
-    match bytes {
-        [first, rest @ ..] if *first == byte => Some(rest),
-        _ => None,
+    /// Whether a byte is a backslash with force, by whether one stands before it.
+    pub fn is_escape(self, behind: bool, byte: u8) -> bool
+        ensures { result ≡ is_escape self behind byte }
+    {
+        byte == b'\\' && !(behind && self.yields(byte))
     }
-}
 
-/// The text of a word, which is ASCII.
-pub fn text_of(alloc: Global, word: &[u8]) -> Result<Text, Memory>
-    requires { IsTrue (list_all is_word_byte word.now) }
-    ensures { IfOk result (λ t. t ≡ word.now) }
-{
-    match Text::read(alloc, word) {
-        Ok(text) => Ok(text),
-        Err(TextFault::NotUtf8 { .. }) => unreachable!(),
-        Err(TextFault::Memory) => Err(Memory),
+    /// Whether a byte with force ends the word here.
+    fn stops(self, behind: bool, byte: u8) -> bool
+        ensures { result ≡ (not behind && ends self byte) }
+    {
+        !behind && self.ends(byte)
+    }
+
+    /// What stands from the first byte on that ends the word.
+    fn back(self, bytes: &[u8]) -> &[u8]
+        ensures { result.now ≡ back self false bytes.now }
+    {
+        let mut behind = false;
+        let mut rest = bytes;
+        while let [byte, after @ ..] = rest {
+            if self.stops(behind, *byte) {
+                return rest;
+            }
+            behind = self.is_escape(behind, *byte);
+            rest = after;
+        }
+        rest
+    }
+
+    /// The word that the bytes begin with, and what stands behind it.
+    pub fn cut(self, bytes: &[u8]) -> (&[u8], &[u8])
+        ensures word { result.0.now ≡ front self false bytes.now }
+        ensures rest { result.1.now ≡ back self false bytes.now }
+    {
+        let rest = self.back(bytes);
+        bytes.split_at(bytes.len() - rest.len())
+    }
+
+    fn is_whole(self, bytes: &[u8]) -> bool
+        ensures { result ≡ is_whole self false bytes.now }
+    {
+        let mut behind = false;
+        let mut rest = bytes;
+        while let [byte, after @ ..] = rest {
+            if self.stops(behind, *byte) {
+                return false;
+            }
+            behind = self.is_escape(behind, *byte);
+            rest = after;
+        }
+        !behind
+    }
+
+    /// Whether the bytes are a word.
+    pub fn is_word(self, bytes: &[u8]) -> bool
+        ensures { result ≡ is_word self bytes.now }
+    {
+        match bytes {
+            [] => false,
+            [_, ..] => self.is_whole(bytes),
+        }
+    }
+
+    /// Whether the bytes begin with one whose force a backslash takes.
+    fn begins_yielding(self, bytes: &[u8]) -> bool
+        ensures { result ≡ begins (yields self) bytes.now }
+    {
+        match bytes {
+            [first, ..] => self.yields(*first),
+            [] => false,
+        }
+    }
+
+    /// What a word says.
+    fn said(self, alloc: Global, bytes: &[u8]) -> Result<Vec<u8>, Memory>
+        ensures { IfOk result (λ v. v.items ≡ said self false bytes.now) }
+    {
+        let mut out = Vec::with_capacity(alloc, bytes.len())?;
+        let mut plain = false;
+        let mut rest = bytes;
+        while let [byte, after @ ..] = rest {
+            plain = !plain && *byte == b'\\' && self.begins_yielding(after);
+            if !plain {
+                out.push(*byte)?;
+            }
+            rest = after;
+        }
+        Ok(out)
+    }
+
+    /// What a word says, as a text.
+    pub fn text(self, alloc: Global, bytes: &[u8]) -> Result<Text, Memory>
+        requires { IsUtf8 bytes.now }
+        ensures { IfOk result (λ t. t ≡ said self false bytes.now) }
+    {
+        let said = self.said(alloc, bytes)?;
+        match Text::read(alloc, said.as_slice()) {
+            Ok(text) => Ok(text),
+            Err(TextFault::NotUtf8 { .. }) => unreachable!(),
+            Err(TextFault::Memory) => Err(Memory),
+        }
     }
 }

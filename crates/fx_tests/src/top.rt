@@ -127,7 +127,7 @@ fn answers_what_its_files_and_streams_allow(rt: HostRuntime) -> Result<(), Fail>
             points: "m v=1i 5\nm v=1 6\n",
             status: 4,
             out: b"",
-            err: "fluxrun: d:2: Syntax\n",
+            err: "fluxrun: d:2: FloatField\n",
             ..good
         },
         Case {

@@ -1,4 +1,5 @@
 -- How the answers of the stages make those of the whole.
+use Rattle.fx_line.specs.declared.line.LineMode.{LineMode}
 use Rattle.std.proofs.Common.{◌≡◌, ℕ, List, [], ◌∷◌, length, take, Option, None, Some, Ok, Err, refl, sym, ◌∙◌, ap, subst, append-nil, inl, inr, Bool, true, false, arith, if◌then◌else◌}
 use Rattle.std.specs.Cmp.Lexicographic.{nat_list_eq_equiv}
 use Rattle.fx_base.specs.Text.{same_text}
@@ -32,20 +33,20 @@ appended-nil None = refl
 appended-nil (Some bytes) = ap (λ b. Some b) (append-nil bytes)
 
 -- a query over the points of a file is the run over the file
-pub data_ends : (c : Command) (q : Query) (file : List ℕ) (stored : List StoredPoint) (old new : Option (List ℕ)) (o : Outcome) → Reads c.bucket (lines_of file) [] stored
-    → DataAnswers q (c.bucket ∷ []) stored old new o → EndsAs c q file old new o
-data_ends c q file stored old new outcome.Done read h = (h.0, record { stored = stored; read = read; run = h.1 }, h.2)
-data_ends c q file stored old new (outcome.Fault fault) read h = (stored, read, h.0, h.1)
-data_ends c q file stored old new outcome.SinkFault read h = (h.0, h.1, record { stored = stored; read = read; run = h.2 }, h.3)
-data_ends c q file stored old new outcome.Memory read (inl h) = inl h
-data_ends c q file stored old new outcome.Memory read (inr h) = inr (h.0, h.1, record { stored = stored; read = read; run = h.2 }, h.3)
-data_ends c q file stored old new outcome.Usage read h = absurd h
-data_ends c q file stored old new (outcome.FileFault name) read h = absurd h
-data_ends c q file stored old new (outcome.TooLong name taken) read h = absurd h
-data_ends c q file stored old new outcome.NotBuilt read h = absurd h
-data_ends c q file stored old new (outcome.Syntax place deep) read h = absurd h
-data_ends c q file stored old new (outcome.Line name number cause) read h = absurd h
-data_ends c q file stored old new (outcome.TooMany name number) read h = absurd h
+pub data_ends : (mode : LineMode) (c : Command) (q : Query) (file : List ℕ) (stored : List StoredPoint) (old new : Option (List ℕ)) (o : Outcome) → Reads mode c.bucket (lines_of file) [] stored
+    → DataAnswers q (c.bucket ∷ []) stored old new o → EndsAs mode c q file old new o
+data_ends mode c q file stored old new outcome.Done read h = (h.0, record { stored = stored; read = read; run = h.1 }, h.2)
+data_ends mode c q file stored old new (outcome.Fault fault) read h = (stored, read, h.0, h.1)
+data_ends mode c q file stored old new outcome.SinkFault read h = (h.0, h.1, record { stored = stored; read = read; run = h.2 }, h.3)
+data_ends mode c q file stored old new outcome.Memory read (inl h) = inl h
+data_ends mode c q file stored old new outcome.Memory read (inr h) = inr (h.0, h.1, record { stored = stored; read = read; run = h.2 }, h.3)
+data_ends mode c q file stored old new outcome.Usage read h = absurd h
+data_ends mode c q file stored old new (outcome.FileFault name) read h = absurd h
+data_ends mode c q file stored old new (outcome.TooLong name taken) read h = absurd h
+data_ends mode c q file stored old new outcome.NotBuilt read h = absurd h
+data_ends mode c q file stored old new (outcome.Syntax place deep) read h = absurd h
+data_ends mode c q file stored old new (outcome.Line name number cause) read h = absurd h
+data_ends mode c q file stored old new (outcome.TooMany name number) read h = absurd h
 
 -- a load stops with no other answer
 abbrev IsNoStop : Outcome → Type 0
@@ -84,104 +85,104 @@ stop_other (load_stop.TooMany number) file outcome.SinkFault n h = h
 stop_other load_stop.Memory file outcome.SinkFault n h = h
 
 -- the parts of a run over a file
-run_is : (told : Told) (words : List (List ℕ)) (c : Command) (q : Query) (file : List ℕ) (old new : Option (List ℕ)) (o : Outcome) → Asks told words c q → IsTold told c.file MOST_FILE_BYTES file → EndsAs c q file old new o → Runs told words old new o
-run_is told words c q file old new o asks held h = record { command = c; query = q; file = file; asks = asks; data_file = held; ends = h }
+run_is : (mode : LineMode) (told : Told) (words : List (List ℕ)) (c : Command) (q : Query) (file : List ℕ) (old new : Option (List ℕ)) (o : Outcome) → Asks told words c q → IsTold told c.file MOST_FILE_BYTES file → EndsAs mode c q file old new o → Runs mode told words old new o
+run_is mode told words c q file old new o asks held h = record { command = c; query = q; file = file; asks = asks; data_file = held; ends = h }
 
 -- so is a load of the file that stops
-pub stop_ends : (c : Command) (q : Query) (file : List ℕ) (kept : Kept) (old : Option (List ℕ)) (stop : LoadStop) (o : Outcome)
-    → FileLoads (c.bucket ∷ []) c.bucket file [] kept (Err stop) → StopAnswers stop c.file o → EndsAs c q file old old o
-stop_ends c q file kept old stop outcome.Memory loads h = inl refl
-stop_ends c q file kept old (load_stop.Line number cause) (outcome.Line name n d) loads h =
-    (loads.0, loads.1, subst (λ m. StopsAt c.bucket file [] m loads.0 loads.1) (sym h.1) loads.2, subst (λ e. IsCause c.bucket loads.0 loads.1 e) (sym h.2) loads.3, h.0, refl)
-stop_ends c q file kept old (load_stop.TooMany number) (outcome.TooMany name n) loads h =
-    (loads.0, loads.1, subst (λ m. StopsAt c.bucket file [] m loads.0 loads.1) (sym h.1) loads.2, loads.3, h.0, refl)
-stop_ends c q file kept old stop outcome.Done loads h = absurd (stop_other stop c.file outcome.Done tt h)
-stop_ends c q file kept old stop outcome.Usage loads h = absurd (stop_other stop c.file outcome.Usage tt h)
-stop_ends c q file kept old stop (outcome.FileFault name) loads h = absurd (stop_other stop c.file (outcome.FileFault name) tt h)
-stop_ends c q file kept old stop (outcome.TooLong name taken) loads h = absurd (stop_other stop c.file (outcome.TooLong name taken) tt h)
-stop_ends c q file kept old stop outcome.NotBuilt loads h = absurd (stop_other stop c.file outcome.NotBuilt tt h)
-stop_ends c q file kept old stop (outcome.Syntax place deep) loads h = absurd (stop_other stop c.file (outcome.Syntax place deep) tt h)
-stop_ends c q file kept old stop (outcome.Fault fault) loads h = absurd (stop_other stop c.file (outcome.Fault fault) tt h)
-stop_ends c q file kept old stop outcome.SinkFault loads h = absurd (stop_other stop c.file outcome.SinkFault tt h)
-stop_ends c q file kept old (load_stop.TooMany number) (outcome.Line name n d) loads h = absurd h
-stop_ends c q file kept old load_stop.Memory (outcome.Line name n d) loads h = absurd h
-stop_ends c q file kept old (load_stop.Line number cause) (outcome.TooMany name n) loads h = absurd h
-stop_ends c q file kept old load_stop.Memory (outcome.TooMany name n) loads h = absurd h
+pub stop_ends : (mode : LineMode) (c : Command) (q : Query) (file : List ℕ) (kept : Kept) (old : Option (List ℕ)) (stop : LoadStop) (o : Outcome)
+    → FileLoads mode (c.bucket ∷ []) c.bucket file [] kept (Err stop) → StopAnswers stop c.file o → EndsAs mode c q file old old o
+stop_ends mode c q file kept old stop outcome.Memory loads h = inl refl
+stop_ends mode c q file kept old (load_stop.Line number cause) (outcome.Line name n d) loads h =
+    (loads.0, loads.1, subst (λ m. StopsAt mode c.bucket file [] m loads.0 loads.1) (sym h.1) loads.2, subst (λ e. IsCause mode c.bucket loads.0 loads.1 e) (sym h.2) loads.3, h.0, refl)
+stop_ends mode c q file kept old (load_stop.TooMany number) (outcome.TooMany name n) loads h =
+    (loads.0, loads.1, subst (λ m. StopsAt mode c.bucket file [] m loads.0 loads.1) (sym h.1) loads.2, loads.3, h.0, refl)
+stop_ends mode c q file kept old stop outcome.Done loads h = absurd (stop_other stop c.file outcome.Done tt h)
+stop_ends mode c q file kept old stop outcome.Usage loads h = absurd (stop_other stop c.file outcome.Usage tt h)
+stop_ends mode c q file kept old stop (outcome.FileFault name) loads h = absurd (stop_other stop c.file (outcome.FileFault name) tt h)
+stop_ends mode c q file kept old stop (outcome.TooLong name taken) loads h = absurd (stop_other stop c.file (outcome.TooLong name taken) tt h)
+stop_ends mode c q file kept old stop outcome.NotBuilt loads h = absurd (stop_other stop c.file outcome.NotBuilt tt h)
+stop_ends mode c q file kept old stop (outcome.Syntax place deep) loads h = absurd (stop_other stop c.file (outcome.Syntax place deep) tt h)
+stop_ends mode c q file kept old stop (outcome.Fault fault) loads h = absurd (stop_other stop c.file (outcome.Fault fault) tt h)
+stop_ends mode c q file kept old stop outcome.SinkFault loads h = absurd (stop_other stop c.file outcome.SinkFault tt h)
+stop_ends mode c q file kept old (load_stop.TooMany number) (outcome.Line name n d) loads h = absurd h
+stop_ends mode c q file kept old load_stop.Memory (outcome.Line name n d) loads h = absurd h
+stop_ends mode c q file kept old (load_stop.Line number cause) (outcome.TooMany name n) loads h = absurd h
+stop_ends mode c q file kept old load_stop.Memory (outcome.TooMany name n) loads h = absurd h
 
 -- ---- a run over a file as an answer of the whole
 
 -- the run over a file is what the whole answers, writes and counts
-pub ends_answers : (told : Told) (words : List (List ℕ)) (c : Command) (q : Query) (file : List ℕ) (old new : Option (List ℕ)) (o : Outcome)
-    → Asks told words c q → IsTold told c.file MOST_FILE_BYTES file → EndsAs c q file old new o → Answers told words old new o
-ends_answers told words c q file old new outcome.Done asks held h = run_is told words c q file old new outcome.Done asks held h
-ends_answers told words c q file old new (outcome.Line name number cause) asks held h = run_is told words c q file old new (outcome.Line name number cause) asks held h
-ends_answers told words c q file old new (outcome.TooMany name number) asks held h = run_is told words c q file old new (outcome.TooMany name number) asks held h
-ends_answers told words c q file old new (outcome.Fault fault) asks held h = run_is told words c q file old new (outcome.Fault fault) asks held h
-ends_answers told words c q file old new outcome.SinkFault asks held h = run_is told words c q file old new outcome.SinkFault asks held h
-ends_answers told words c q file old new outcome.Memory asks held h = inr (run_is told words c q file old new outcome.Memory asks held h)
-ends_answers told words c q file old new outcome.Usage asks held h = absurd h
-ends_answers told words c q file old new (outcome.FileFault name) asks held h = absurd h
-ends_answers told words c q file old new (outcome.TooLong name taken) asks held h = absurd h
-ends_answers told words c q file old new outcome.NotBuilt asks held h = absurd h
-ends_answers told words c q file old new (outcome.Syntax place deep) asks held h = absurd h
+pub ends_answers : (mode : LineMode) (told : Told) (words : List (List ℕ)) (c : Command) (q : Query) (file : List ℕ) (old new : Option (List ℕ)) (o : Outcome)
+    → Asks told words c q → IsTold told c.file MOST_FILE_BYTES file → EndsAs mode c q file old new o → Answers mode told words old new o
+ends_answers mode told words c q file old new outcome.Done asks held h = run_is mode told words c q file old new outcome.Done asks held h
+ends_answers mode told words c q file old new (outcome.Line name number cause) asks held h = run_is mode told words c q file old new (outcome.Line name number cause) asks held h
+ends_answers mode told words c q file old new (outcome.TooMany name number) asks held h = run_is mode told words c q file old new (outcome.TooMany name number) asks held h
+ends_answers mode told words c q file old new (outcome.Fault fault) asks held h = run_is mode told words c q file old new (outcome.Fault fault) asks held h
+ends_answers mode told words c q file old new outcome.SinkFault asks held h = run_is mode told words c q file old new outcome.SinkFault asks held h
+ends_answers mode told words c q file old new outcome.Memory asks held h = inr (run_is mode told words c q file old new outcome.Memory asks held h)
+ends_answers mode told words c q file old new outcome.Usage asks held h = absurd h
+ends_answers mode told words c q file old new (outcome.FileFault name) asks held h = absurd h
+ends_answers mode told words c q file old new (outcome.TooLong name taken) asks held h = absurd h
+ends_answers mode told words c q file old new outcome.NotBuilt asks held h = absurd h
+ends_answers mode told words c q file old new (outcome.Syntax place deep) asks held h = absurd h
 
 no_text : (old new : Option (List ℕ)) → new ≡ old → new ≡ appended old (take 0 (yield_text []))
 no_text old new h = h ∙ sym (appended-nil old)
 
-pub ends_writes : (c : Command) (q : Query) (file : List ℕ) (old new : Option (List ℕ)) (o : Outcome) → EndsAs c q file old new o → Writes old new o
-ends_writes c q file old new outcome.Done h = (h.0, h.2)
-ends_writes c q file old new (outcome.Line name number cause) h = h.5
-ends_writes c q file old new (outcome.TooMany name number) h = h.5
-ends_writes c q file old new (outcome.Fault fault) h = h.3
-ends_writes c q file old new outcome.SinkFault h = (h.0, h.1, h.3)
-ends_writes c q file old new outcome.Memory (inl h) = ([], 0, no_text old new h)
-ends_writes c q file old new outcome.Memory (inr h) = (h.0, h.1, h.3)
-ends_writes c q file old new outcome.Usage h = absurd h
-ends_writes c q file old new (outcome.FileFault name) h = absurd h
-ends_writes c q file old new (outcome.TooLong name taken) h = absurd h
-ends_writes c q file old new outcome.NotBuilt h = absurd h
-ends_writes c q file old new (outcome.Syntax place deep) h = absurd h
+pub ends_writes : (mode : LineMode) (c : Command) (q : Query) (file : List ℕ) (old new : Option (List ℕ)) (o : Outcome) → EndsAs mode c q file old new o → Writes old new o
+ends_writes mode c q file old new outcome.Done h = (h.0, h.2)
+ends_writes mode c q file old new (outcome.Line name number cause) h = h.5
+ends_writes mode c q file old new (outcome.TooMany name number) h = h.5
+ends_writes mode c q file old new (outcome.Fault fault) h = h.3
+ends_writes mode c q file old new outcome.SinkFault h = (h.0, h.1, h.3)
+ends_writes mode c q file old new outcome.Memory (inl h) = ([], 0, no_text old new h)
+ends_writes mode c q file old new outcome.Memory (inr h) = (h.0, h.1, h.3)
+ends_writes mode c q file old new outcome.Usage h = absurd h
+ends_writes mode c q file old new (outcome.FileFault name) h = absurd h
+ends_writes mode c q file old new (outcome.TooLong name taken) h = absurd h
+ends_writes mode c q file old new outcome.NotBuilt h = absurd h
+ends_writes mode c q file old new (outcome.Syntax place deep) h = absurd h
 
-pub ends_causes : (c : Command) (q : Query) (file : List ℕ) (old new : Option (List ℕ)) (files files' out out' : ℕ) (o : Outcome) → EndsAs c q file old new o → files' ≡ files → RunCauses out out' o → Causes files files' out out' o
-ends_causes c q file old new files files' out out' outcome.Done h same causes = (same, causes)
-ends_causes c q file old new files files' out out' (outcome.Line name number cause) h same causes = (same, causes)
-ends_causes c q file old new files files' out out' (outcome.TooMany name number) h same causes = (same, causes)
-ends_causes c q file old new files files' out out' (outcome.Fault fault) h same causes = (same, causes)
-ends_causes c q file old new files files' out out' outcome.SinkFault h same causes = (same, causes)
-ends_causes c q file old new files files' out out' outcome.Memory h same causes = tt
-ends_causes c q file old new files files' out out' outcome.Usage h same causes = absurd h
-ends_causes c q file old new files files' out out' (outcome.FileFault name) h same causes = absurd h
-ends_causes c q file old new files files' out out' (outcome.TooLong name taken) h same causes = absurd h
-ends_causes c q file old new files files' out out' outcome.NotBuilt h same causes = absurd h
-ends_causes c q file old new files files' out out' (outcome.Syntax place deep) h same causes = absurd h
+pub ends_causes : (mode : LineMode) (c : Command) (q : Query) (file : List ℕ) (old new : Option (List ℕ)) (files files' out out' : ℕ) (o : Outcome) → EndsAs mode c q file old new o → files' ≡ files → RunCauses out out' o → Causes files files' out out' o
+ends_causes mode c q file old new files files' out out' outcome.Done h same causes = (same, causes)
+ends_causes mode c q file old new files files' out out' (outcome.Line name number cause) h same causes = (same, causes)
+ends_causes mode c q file old new files files' out out' (outcome.TooMany name number) h same causes = (same, causes)
+ends_causes mode c q file old new files files' out out' (outcome.Fault fault) h same causes = (same, causes)
+ends_causes mode c q file old new files files' out out' outcome.SinkFault h same causes = (same, causes)
+ends_causes mode c q file old new files files' out out' outcome.Memory h same causes = tt
+ends_causes mode c q file old new files files' out out' outcome.Usage h same causes = absurd h
+ends_causes mode c q file old new files files' out out' (outcome.FileFault name) h same causes = absurd h
+ends_causes mode c q file old new files files' out out' (outcome.TooLong name taken) h same causes = absurd h
+ends_causes mode c q file old new files files' out out' outcome.NotBuilt h same causes = absurd h
+ends_causes mode c q file old new files files' out out' (outcome.Syntax place deep) h same causes = absurd h
 
-pub ends_names : (words : List (List ℕ)) (c : Command) (q : Query) (file : List ℕ) (old new : Option (List ℕ)) (o : Outcome) → IsCommand words c → EndsAs c q file old new o → NamesFile words o
-ends_names words c q file old new outcome.Done is h = tt
-ends_names words c q file old new (outcome.Line name number cause) is h = (c, is, h.4)
-ends_names words c q file old new (outcome.TooMany name number) is h = (c, is, h.4)
-ends_names words c q file old new (outcome.Fault fault) is h = tt
-ends_names words c q file old new outcome.SinkFault is h = tt
-ends_names words c q file old new outcome.Memory is h = tt
-ends_names words c q file old new outcome.Usage is h = absurd h
-ends_names words c q file old new (outcome.FileFault name) is h = absurd h
-ends_names words c q file old new (outcome.TooLong name taken) is h = absurd h
-ends_names words c q file old new outcome.NotBuilt is h = absurd h
-ends_names words c q file old new (outcome.Syntax place deep) is h = absurd h
+pub ends_names : (mode : LineMode) (words : List (List ℕ)) (c : Command) (q : Query) (file : List ℕ) (old new : Option (List ℕ)) (o : Outcome) → IsCommand words c → EndsAs mode c q file old new o → NamesFile words o
+ends_names mode words c q file old new outcome.Done is h = tt
+ends_names mode words c q file old new (outcome.Line name number cause) is h = (c, is, h.4)
+ends_names mode words c q file old new (outcome.TooMany name number) is h = (c, is, h.4)
+ends_names mode words c q file old new (outcome.Fault fault) is h = tt
+ends_names mode words c q file old new outcome.SinkFault is h = tt
+ends_names mode words c q file old new outcome.Memory is h = tt
+ends_names mode words c q file old new outcome.Usage is h = absurd h
+ends_names mode words c q file old new (outcome.FileFault name) is h = absurd h
+ends_names mode words c q file old new (outcome.TooLong name taken) is h = absurd h
+ends_names mode words c q file old new outcome.NotBuilt is h = absurd h
+ends_names mode words c q file old new (outcome.Syntax place deep) is h = absurd h
 
 -- ---- a load that is refused as an answer of the whole
 
-pub file_answers : (told : Told) (words : List (List ℕ)) (name : List ℕ) (limit : ℕ) (old : Option (List ℕ)) (o : Outcome) → Reaches told words name limit → FileAnswers told name limit (Err o) → Answers told words old old o
-file_answers told words name limit old (outcome.FileFault n) at h = (limit, subst (λ m. Reaches told words m limit) (sym h) at, refl)
-file_answers told words name limit old (outcome.TooLong n taken) at h = (limit, subst (λ m. Reaches told words m limit) (sym h.1) at, subst (λ m. IsLong told m limit) (sym h.1) h.0, h.2, refl)
-file_answers told words name limit old outcome.Memory at h = inl refl
-file_answers told words name limit old outcome.Done at h = absurd h
-file_answers told words name limit old outcome.Usage at h = absurd h
-file_answers told words name limit old outcome.NotBuilt at h = absurd h
-file_answers told words name limit old (outcome.Syntax place deep) at h = absurd h
-file_answers told words name limit old (outcome.Line n number cause) at h = absurd h
-file_answers told words name limit old (outcome.TooMany n number) at h = absurd h
-file_answers told words name limit old (outcome.Fault fault) at h = absurd h
-file_answers told words name limit old outcome.SinkFault at h = absurd h
+pub file_answers : (mode : LineMode) (told : Told) (words : List (List ℕ)) (name : List ℕ) (limit : ℕ) (old : Option (List ℕ)) (o : Outcome) → Reaches told words name limit → FileAnswers told name limit (Err o) → Answers mode told words old old o
+file_answers mode told words name limit old (outcome.FileFault n) at h = (limit, subst (λ m. Reaches told words m limit) (sym h) at, refl)
+file_answers mode told words name limit old (outcome.TooLong n taken) at h = (limit, subst (λ m. Reaches told words m limit) (sym h.1) at, subst (λ m. IsLong told m limit) (sym h.1) h.0, h.2, refl)
+file_answers mode told words name limit old outcome.Memory at h = inl refl
+file_answers mode told words name limit old outcome.Done at h = absurd h
+file_answers mode told words name limit old outcome.Usage at h = absurd h
+file_answers mode told words name limit old outcome.NotBuilt at h = absurd h
+file_answers mode told words name limit old (outcome.Syntax place deep) at h = absurd h
+file_answers mode told words name limit old (outcome.Line n number cause) at h = absurd h
+file_answers mode told words name limit old (outcome.TooMany n number) at h = absurd h
+file_answers mode told words name limit old (outcome.Fault fault) at h = absurd h
+file_answers mode told words name limit old outcome.SinkFault at h = absurd h
 
 pub file_causes : (name : List ℕ) (limit files files' out : ℕ) (o : Outcome) → FileCauses name limit files files' (Err o) → Causes files files' out out o
 file_causes name limit files files' out (outcome.FileFault n) h = (h.0, refl)
@@ -228,18 +229,18 @@ memory_writes old = ([], 0, no_text old old refl)
 
 -- ---- want of memory in place of another answer, when its line was to be told
 
-pub forget_answers : (told : Told) (words : List (List ℕ)) (old new : Option (List ℕ)) (o : Outcome) → Answers told words old new o → Answers told words old new outcome.Memory
-forget_answers told words old new outcome.Usage h = inl h.1
-forget_answers told words old new (outcome.FileFault name) h = inl h.2
-forget_answers told words old new (outcome.TooLong name taken) h = inl h.4
-forget_answers told words old new outcome.NotBuilt h = inl h.1
-forget_answers told words old new (outcome.Syntax place deep) h = inl h.1
-forget_answers told words old new outcome.Memory h = h
-forget_answers told words old new (outcome.Line name number cause) h = inl h.ends.5
-forget_answers told words old new (outcome.TooMany name number) h = inl h.ends.5
-forget_answers told words old new (outcome.Fault fault) h = inl h.ends.3
-forget_answers told words old new outcome.SinkFault h = inr (run_is told words h.command h.query h.file old new outcome.Memory h.asks h.data_file (inr h.ends))
-forget_answers told words old new outcome.Done h = inr (run_is told words h.command h.query h.file old new outcome.Memory h.asks h.data_file
+pub forget_answers : (mode : LineMode) (told : Told) (words : List (List ℕ)) (old new : Option (List ℕ)) (o : Outcome) → Answers mode told words old new o → Answers mode told words old new outcome.Memory
+forget_answers mode told words old new outcome.Usage h = inl h.1
+forget_answers mode told words old new (outcome.FileFault name) h = inl h.2
+forget_answers mode told words old new (outcome.TooLong name taken) h = inl h.4
+forget_answers mode told words old new outcome.NotBuilt h = inl h.1
+forget_answers mode told words old new (outcome.Syntax place deep) h = inl h.1
+forget_answers mode told words old new outcome.Memory h = h
+forget_answers mode told words old new (outcome.Line name number cause) h = inl h.ends.5
+forget_answers mode told words old new (outcome.TooMany name number) h = inl h.ends.5
+forget_answers mode told words old new (outcome.Fault fault) h = inl h.ends.3
+forget_answers mode told words old new outcome.SinkFault h = inr (run_is mode told words h.command h.query h.file old new outcome.Memory h.asks h.data_file (inr h.ends))
+forget_answers mode told words old new outcome.Done h = inr (run_is mode told words h.command h.query h.file old new outcome.Memory h.asks h.data_file
     (inr (h.ends.0, length (yield_text h.ends.0), h.ends.1, h.ends.2 ∙ ap (appended old) (sym (take-length (yield_text h.ends.0))))))
 
 pub forget_writes : (old new : Option (List ℕ)) (o : Outcome) → Writes old new o → Writes old new outcome.Memory
@@ -272,9 +273,9 @@ new_is_ready bucket kept stands = record {
 
 -- ---- the answer that was told
 
-pub told_answers : (told : Told) (words : List (List ℕ)) (old new : Option (List ℕ)) (o r : Outcome) → ((r ≡ o) ⊎ (r ≡ outcome.Memory)) → Answers told words old new o → Answers told words old new r
-told_answers told words old new o r (inl e) h = subst (λ a. Answers told words old new a) (sym e) h
-told_answers told words old new o r (inr e) h = subst (λ a. Answers told words old new a) (sym e) (forget_answers told words old new o h)
+pub told_answers : (mode : LineMode) (told : Told) (words : List (List ℕ)) (old new : Option (List ℕ)) (o r : Outcome) → ((r ≡ o) ⊎ (r ≡ outcome.Memory)) → Answers mode told words old new o → Answers mode told words old new r
+told_answers mode told words old new o r (inl e) h = subst (λ a. Answers mode told words old new a) (sym e) h
+told_answers mode told words old new o r (inr e) h = subst (λ a. Answers mode told words old new a) (sym e) (forget_answers mode told words old new o h)
 
 pub told_writes : (old new : Option (List ℕ)) (o r : Outcome) → ((r ≡ o) ⊎ (r ≡ outcome.Memory)) → Writes old new o → Writes old new r
 told_writes old new o r (inl e) h = subst (λ a. Writes old new a) (sym e) h

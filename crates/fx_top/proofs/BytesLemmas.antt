@@ -1,5 +1,5 @@
 -- Texts that are cut at a byte or behind a front.
-use Rattle.std.proofs.Common.{◌≡◌, ◌≢◌, ℕ, ◌+◌, ◌<◌, Bool, true, false, ◌==◌, ◌||◌, not, cond, List, [], ◌∷◌, ◌++◌, length, take, drop, refl, sym, ◌∙◌, ap, arith, add_comm, add-one, nat_eq, Option, None, Some, take-append-drop}
+use Rattle.std.proofs.Common.{◌≡◌, ◌≢◌, ℕ, ◌+◌, ◌<◌, ◌≤◌, Bool, true, false, ◌==◌, ◌&&◌, ◌||◌, not, cond, List, [], ◌∷◌, ◌++◌, length, take, drop, refl, sym, ◌∙◌, ap, arith, add_comm, add-one, nat_eq, Option, None, Some, take-append-drop}
 use Rattle.std.proofs.Math.Seq.{take-append_seam, drop-append_seam}
 use Rattle.std.proofs.lemmas.Grind.{common_steps}
 use Rattle.std.proofs.lemmas.Bool.{eqb-true}
@@ -7,7 +7,7 @@ use Rattle.std.specs.List.{list_any, position_or_len, before_first, after_first}
 use Rattle.std.specs.Option.{MatchOption, IfSome, IfNone}
 use Rattle.std.specs.Cmp.Lexicographic.{pointwise, same_text, other_text}
 use denote.Ref.{Bor}
-use Rattle.fx_top.specs.Bytes.{IsFreeOf, lines_of}
+use Rattle.fx_top.specs.Bytes.{IsFreeOf, lines_of, with_first, begins_with_feed, is_empty, without_return}
 
 -- two texts with one front have one rest
 pub same_rest : (front a b : List ℕ) → front ++ a ≡ front ++ b → a ≡ b
@@ -79,12 +79,68 @@ free_here b x rest h = parts (x == b) (list_any (λ a. a == b) rest) h
     parts true q e = absurd (cc)
     parts false q e = (refl, e)
 
+no_return : (b c : Bool) → c ≡ false → (b && c) ≡ false
+no_return true c e = e
+no_return false c e = refl
+
 -- the first line ends at the first line feed
-pub lines_of-cut : (line rest : List ℕ) → IsFreeOf 10 line → lines_of (line ++ 10 ∷ rest) ≡ line ∷ lines_of rest
+pub lines_of-cut : (line rest : List ℕ) → IsFreeOf 10 line → lines_of (line ++ 10 ∷ rest) ≡ without_return line ∷ lines_of rest
 lines_of-cut [] rest h = refl
-lines_of-cut (x ∷ line) rest h = let here = free_here 10 x line h in rw (here.0, lines_of-cut line rest here.1) refl
+lines_of-cut (x ∷ []) rest h =
+    let here = free_here 10 x [] h in
+    ap (λ t. cond t ([] ∷ lines_of (10 ∷ rest)) (cond ((x == 13) && true) (lines_of (10 ∷ rest)) (with_first x (lines_of (10 ∷ rest))))) here.0
+    ∙ elim (x == 13) as (λ t. cond (t && true) ([] ∷ lines_of rest) ((x ∷ []) ∷ lines_of rest) ≡ cond (t && true) [] (x ∷ []) ∷ lines_of rest) [
+      | true ↦ refl
+      | false ↦ refl
+    ]
+lines_of-cut (x ∷ y ∷ line) rest h =
+    let here = free_here 10 x (y ∷ line) h in
+    let later = free_here 10 y line here.1 in
+    let more : List ℕ = (y ∷ line) ++ 10 ∷ rest in
+    ap (λ t. cond t ([] ∷ lines_of more) (cond ((x == 13) && (y == 10)) (lines_of more) (with_first x (lines_of more)))) here.0
+    ∙ ap (λ t. cond t (lines_of more) (with_first x (lines_of more))) (no_return (x == 13) (y == 10) later.0)
+    ∙ ap (with_first x) (lines_of-cut (y ∷ line) rest here.1)
+    ∙ ap (λ t. cond t [] (x ∷ without_return (y ∷ line)) ∷ lines_of rest) (sym (no_return (x == 13) false refl))
 
 -- a text without a line feed is one line
+no_feed : (text : List ℕ) → IsFreeOf 10 text → begins_with_feed text ≡ false
+no_feed [] h = refl
+no_feed (x ∷ text) h = (free_here 10 x text h).0
+
 pub lines_of-end : (text : List ℕ) → IsFreeOf 10 text → lines_of text ≡ text ∷ []
 lines_of-end [] h = refl
-lines_of-end (x ∷ text) h = let here = free_here 10 x text h in rw (here.0, lines_of-end text here.1) refl
+lines_of-end (x ∷ text) h =
+    let here = free_here 10 x text h in
+    ap (λ t. cond t ([] ∷ lines_of text) (cond ((x == 13) && begins_with_feed text) (lines_of text) (with_first x (lines_of text)))) here.0
+    ∙ ap (λ t. cond t (lines_of text) (with_first x (lines_of text))) (no_return (x == 13) (begins_with_feed text) (no_feed text here.1))
+    ∙ ap (with_first x) (lines_of-end text here.1)
+
+-- a carriage return at the end
+pub return_off : (r : List ℕ) → without_return (r ++ 13 ∷ []) ≡ r
+return_off [] = refl
+return_off (b ∷ []) =
+    elim (b == 13) as (λ t. cond (t && false) [] (b ∷ []) ≡ b ∷ []) [
+      | true ↦ refl
+      | false ↦ refl
+    ]
+return_off (b ∷ c ∷ r) =
+    ap (λ t. cond t [] (b ∷ without_return ((c ∷ r) ++ 13 ∷ []))) (no_return (b == 13) false refl) ∙ ap (λ x. b ∷ x) (return_off (c ∷ r))
+
+pub no_return_off : (r : List ℕ) → ((s : List ℕ) → r ≡ s ++ 13 ∷ [] → ⊥) → without_return r ≡ r
+no_return_off [] none = refl
+no_return_off (b ∷ []) none =
+    elim (b == 13) as (λ t. (b == 13) ≡ t → cond (t && true) [] (b ∷ []) ≡ b ∷ []) [
+      | true ↦ λ e. let same : b ≡ 13 = eqb-true b 13 e in absurd (none [] (ap (λ x. x ∷ []) same))
+      | false ↦ λ e. refl
+    ] refl
+no_return_off (b ∷ c ∷ r) none =
+    ap (λ t. cond t [] (b ∷ without_return (c ∷ r))) (no_return (b == 13) false refl)
+    ∙ ap (λ x. b ∷ x) (no_return_off (c ∷ r) (λ s e. none (b ∷ s) (ap (λ x. b ∷ x) e)))
+
+pub return_short : (r : List ℕ) → length (without_return r) ≤ length r
+return_short [] = omega arith
+return_short (b ∷ r) =
+    elim ((b == 13) && is_empty r) as (λ t. length (cond t [] (b ∷ without_return r)) ≤ length (b ∷ r)) [
+      | true ↦ omega arith
+      | false ↦ omega (arith, return_short r)
+    ]

@@ -1,4 +1,5 @@
 -- A load over stored points ends in one way.
+use Rattle.fx_line.specs.declared.line.LineMode.{LineMode}
 use Rattle.std.proofs.Common.{◌≡◌, ℕ, suc, ◌+◌, ◌<◌, ◌≤◌, ◌⊎◌, inl, inr, List, [], ◌∷◌, ◌++◌, length, map, refl, sym, ◌∙◌, ap, subst, arith, length-append, append-nil, append_assoc}
 use Rattle.fx_value.specs.declared.scalar.Kind.{Kind}
 use Rattle.fx_line.specs.declared.line.LineError.{LineError}
@@ -45,25 +46,25 @@ agrees_at stored bucket [] p rest h = subst (λ l. Agrees l (at_bucket bucket p)
 agrees_at stored bucket (q ∷ before) p rest h =
     subst (λ l. Agrees l (at_bucket bucket p)) (append_assoc stored (at_bucket bucket q ∷ []) (in_bucket bucket before)) (agrees_at (stored ++ at_bucket bucket q ∷ []) bucket before p rest h.1)
 
-same_takes : (bucket line : List ℕ) (before a b : List StoredPoint) → Takes bucket line before a → Takes bucket line before b → a ≡ b
-same_takes bucket line before a b g h =
-    g.stored ∙ ap (λ ps. before ++ in_bucket bucket ps) (same_points line g.points h.points g.given h.given) ∙ sym h.stored
+same_takes : (mode : LineMode) (bucket line : List ℕ) (before a b : List StoredPoint) → Takes mode bucket line before a → Takes mode bucket line before b → a ≡ b
+same_takes mode bucket line before a b g h =
+    g.stored ∙ ap (λ ps. before ++ in_bucket bucket ps) (same_points mode line g.points h.points g.given h.given) ∙ sym h.stored
 
 -- the line stops the load
-abbrev pub Stops : List ℕ → List ℕ → List StoredPoint → Type 0
-Stops bucket line stored = ((reason : LineCause) × IsCause bucket line stored reason) ⊎ IsTooMany bucket line stored
+abbrev pub Stops : LineMode → List ℕ → List ℕ → List StoredPoint → Type 0
+Stops mode bucket line stored = ((reason : LineCause) × IsCause mode bucket line stored reason) ⊎ IsTooMany mode bucket line stored
 
 length_in : (bucket : List ℕ) (points : List Point) → length (in_bucket bucket points) ≡ length points
 length_in bucket [] = refl
 length_in bucket (p ∷ points) = ap suc (length_in bucket points)
 
-pub stop_or_takes : (bucket line : List ℕ) (stored after : List StoredPoint) → Stops bucket line stored → Takes bucket line stored after → ⊥
-stop_or_takes bucket line stored after (inl (cause.Form error, h)) t = given_refused line t.points error t.given h
-stop_or_takes bucket line stored after (inl (cause.KindConflict old new, h)) t =
-    let same = same_points line t.points (h.0 ++ h.1 ∷ h.2) t.given h.3 in
+pub stop_or_takes : (mode : LineMode) (bucket line : List ℕ) (stored after : List StoredPoint) → Stops mode bucket line stored → Takes mode bucket line stored after → ⊥
+stop_or_takes mode bucket line stored after (inl (cause.Form error, h)) t = given_refused mode line t.points error t.given h
+stop_or_takes mode bucket line stored after (inl (cause.KindConflict old new, h)) t =
+    let same = same_points mode line t.points (h.0 ++ h.1 ∷ h.2) t.given h.3 in
     agrees_or_conflicts (stored ++ in_bucket bucket h.0) (at_bucket bucket h.1) h.6.0 old new (agrees_at stored bucket h.0 h.1 h.2 (subst (Fit stored bucket) same t.fit)) h.6.1
-stop_or_takes bucket line stored after (inr h) t =
-    let same = same_points line t.points (h.0 ++ h.1 ∷ h.2) t.given h.3 in
+stop_or_takes mode bucket line stored after (inr h) t =
+    let same = same_points mode line t.points (h.0 ++ h.1 ∷ h.2) t.given h.3 in
     omega (arith, t.few, ap length t.stored, length-append stored (in_bucket bucket t.points), length_in bucket t.points, ap length same, length-append h.0 (h.1 ∷ h.2), h.5)
 
 -- a point in conflict with those before it stands in no list that fits
@@ -72,10 +73,10 @@ conflict_past : (bucket : List ℕ) (stored : List StoredPoint) (before : List P
 conflict_past bucket stored before p more fitting old new is fit h =
     agrees_or_conflicts (stored ++ in_bucket bucket before) (at_bucket bucket p) h.0 old new (agrees_at stored bucket before p more (subst (Fit stored bucket) is fit)) h.1
 
-one_conflict : (bucket line : List ℕ) (stored : List StoredPoint) (old new old' new' : Kind) → IsCause bucket line stored (cause.KindConflict old new) → IsCause bucket line stored (cause.KindConflict old' new')
+one_conflict : (mode : LineMode) (bucket line : List ℕ) (stored : List StoredPoint) (old new old' new' : Kind) → IsCause mode bucket line stored (cause.KindConflict old new) → IsCause mode bucket line stored (cause.KindConflict old' new')
     → cause.KindConflict old new ≡ cause.KindConflict old' new'
-one_conflict bucket line stored old new old' new' g h =
-    by (cuts g.0 h.0 g.2 h.2 g.1 h.1 (same_points line (g.0 ++ g.1 ∷ g.2) (h.0 ++ h.1 ∷ h.2) g.3 h.3))
+one_conflict mode bucket line stored old new old' new' g h =
+    by (cuts g.0 h.0 g.2 h.2 g.1 h.1 (same_points mode line (g.0 ++ g.1 ∷ g.2) (h.0 ++ h.1 ∷ h.2) g.3 h.3))
   where
     by : AreCuts g.0 g.1 h.0 h.1 → cause.KindConflict old new ≡ cause.KindConflict old' new'
     by (inl same) =
@@ -87,49 +88,49 @@ one_conflict bucket line stored old new old' new' g h =
     by (inr (inl past)) = absurd (conflict_past bucket stored g.0 g.1 past.0 h.0 old new past.1 h.4 g.6)
     by (inr (inr past)) = absurd (conflict_past bucket stored h.0 h.1 past.0 g.0 old' new' past.1 g.4 h.6)
 
-pub same_cause : (bucket line : List ℕ) (stored : List StoredPoint) (a b : LineCause) → IsCause bucket line stored a → IsCause bucket line stored b → a ≡ b
-same_cause bucket line stored (cause.Form d) (cause.Form e) g h = ap (λ x. cause.Form x) (same_error line d e g h)
-same_cause bucket line stored (cause.Form d) (cause.KindConflict old new) g h = absurd (given_refused line (h.0 ++ h.1 ∷ h.2) d h.3 g)
-same_cause bucket line stored (cause.KindConflict old new) (cause.Form e) g h = absurd (given_refused line (g.0 ++ g.1 ∷ g.2) e g.3 h)
-same_cause bucket line stored (cause.KindConflict old new) (cause.KindConflict old' new') g h = one_conflict bucket line stored old new old' new' g h
+pub same_cause : (mode : LineMode) (bucket line : List ℕ) (stored : List StoredPoint) (a b : LineCause) → IsCause mode bucket line stored a → IsCause mode bucket line stored b → a ≡ b
+same_cause mode bucket line stored (cause.Form d) (cause.Form e) g h = ap (λ x. cause.Form x) (same_error mode line d e g h)
+same_cause mode bucket line stored (cause.Form d) (cause.KindConflict old new) g h = absurd (given_refused mode line (h.0 ++ h.1 ∷ h.2) d h.3 g)
+same_cause mode bucket line stored (cause.KindConflict old new) (cause.Form e) g h = absurd (given_refused mode line (g.0 ++ g.1 ∷ g.2) e g.3 h)
+same_cause mode bucket line stored (cause.KindConflict old new) (cause.KindConflict old' new') g h = one_conflict mode bucket line stored old new old' new' g h
 
 -- too many points and another cause are never both there
-room_or_full : (bucket line : List ℕ) (stored : List StoredPoint) (old new : Kind) → IsCause bucket line stored (cause.KindConflict old new) → IsTooMany bucket line stored → ⊥
-room_or_full bucket line stored old new g h = by (cuts g.0 h.0 g.2 h.2 g.1 h.1 (same_points line (g.0 ++ g.1 ∷ g.2) (h.0 ++ h.1 ∷ h.2) g.3 h.3))
+room_or_full : (mode : LineMode) (bucket line : List ℕ) (stored : List StoredPoint) (old new : Kind) → IsCause mode bucket line stored (cause.KindConflict old new) → IsTooMany mode bucket line stored → ⊥
+room_or_full mode bucket line stored old new g h = by (cuts g.0 h.0 g.2 h.2 g.1 h.1 (same_points mode line (g.0 ++ g.1 ∷ g.2) (h.0 ++ h.1 ∷ h.2) g.3 h.3))
   where
     by : AreCuts g.0 g.1 h.0 h.1 → ⊥
     by (inl same) = omega (arith, g.5, h.5, ap length same.0)
     by (inr (inl past)) = conflict_past bucket stored g.0 g.1 past.0 h.0 old new past.1 h.4 g.6
     by (inr (inr past)) = omega (arith, g.5, h.5, ap length past.1, length-append h.0 (h.1 ∷ past.0))
 
-pub cause_or_full : (bucket line : List ℕ) (stored : List StoredPoint) (a : LineCause) → IsCause bucket line stored a → IsTooMany bucket line stored → ⊥
-cause_or_full bucket line stored (cause.Form error) g h = given_refused line (h.0 ++ h.1 ∷ h.2) error h.3 g
-cause_or_full bucket line stored (cause.KindConflict old new) g h = room_or_full bucket line stored old new g h
+pub cause_or_full : (mode : LineMode) (bucket line : List ℕ) (stored : List StoredPoint) (a : LineCause) → IsCause mode bucket line stored a → IsTooMany mode bucket line stored → ⊥
+cause_or_full mode bucket line stored (cause.Form error) g h = given_refused mode line (h.0 ++ h.1 ∷ h.2) error h.3 g
+cause_or_full mode bucket line stored (cause.KindConflict old new) g h = room_or_full mode bucket line stored old new g h
 
 -- ---- a file
 
-pub same_reads : (bucket : List ℕ) (lines : List (List ℕ)) (before a b : List StoredPoint) → Reads bucket lines before a → Reads bucket lines before b → a ≡ b
-same_reads bucket [] before a b g h = sym g ∙ h
-same_reads bucket (line ∷ lines) before a b g h =
-    let same = same_takes bucket line before g.0 h.0 g.1 h.1 in
-    same_reads bucket lines g.0 a b g.2 (subst (λ m. Reads bucket lines m b) (sym same) h.2)
+pub same_reads : (mode : LineMode) (bucket : List ℕ) (lines : List (List ℕ)) (before a b : List StoredPoint) → Reads mode bucket lines before a → Reads mode bucket lines before b → a ≡ b
+same_reads mode bucket [] before a b g h = sym g ∙ h
+same_reads mode bucket (line ∷ lines) before a b g h =
+    let same = same_takes mode bucket line before g.0 h.0 g.1 h.1 in
+    same_reads mode bucket lines g.0 a b g.2 (subst (λ m. Reads mode bucket lines m b) (sym same) h.2)
 
-cut_reads : (bucket : List ℕ) (lines more : List (List ℕ)) (before after : List StoredPoint) → Reads bucket (lines ++ more) before after → (middle : List StoredPoint) × Reads bucket lines before middle × Reads bucket more middle after
-cut_reads bucket [] more before after h = (before, refl, h)
-cut_reads bucket (line ∷ lines) more before after h =
-    let later = cut_reads bucket lines more h.0 after h.2 in
+cut_reads : (mode : LineMode) (bucket : List ℕ) (lines more : List (List ℕ)) (before after : List StoredPoint) → Reads mode bucket (lines ++ more) before after → (middle : List StoredPoint) × Reads mode bucket lines before middle × Reads mode bucket more middle after
+cut_reads mode bucket [] more before after h = (before, refl, h)
+cut_reads mode bucket (line ∷ lines) more before after h =
+    let later = cut_reads mode bucket lines more h.0 after h.2 in
     (later.0, (h.0, h.1, later.1), later.2)
 
 -- lines up to the one that stops a load, and on, are not read
-stop_or_reads : (bucket line : List ℕ) (ahead behind : List (List ℕ)) (before stored after : List StoredPoint) → Reads bucket ahead before stored → Stops bucket line stored → Reads bucket (ahead ++ line ∷ behind) before after → ⊥
-stop_or_reads bucket line ahead behind before stored after read stop h =
-    let parts = cut_reads bucket ahead (line ∷ behind) before after h in
-    let same = same_reads bucket ahead before parts.0 stored parts.1 read in
-    stop_or_takes bucket line stored parts.2.0 stop (subst (λ m. Takes bucket line m parts.2.0) same parts.2.1)
+stop_or_reads : (mode : LineMode) (bucket line : List ℕ) (ahead behind : List (List ℕ)) (before stored after : List StoredPoint) → Reads mode bucket ahead before stored → Stops mode bucket line stored → Reads mode bucket (ahead ++ line ∷ behind) before after → ⊥
+stop_or_reads mode bucket line ahead behind before stored after read stop h =
+    let parts = cut_reads mode bucket ahead (line ∷ behind) before after h in
+    let same = same_reads mode bucket ahead before parts.0 stored parts.1 read in
+    stop_or_takes mode bucket line stored parts.2.0 stop (subst (λ m. Takes mode bucket line m parts.2.0) same parts.2.1)
 
-pub stop_or_all : (bucket file line : List ℕ) (before stored after : List StoredPoint) (number : ℕ) → StopsAt bucket file before number line stored → Stops bucket line stored → Reads bucket (lines_of file) before after → ⊥
-stop_or_all bucket file line before stored after number at stop h =
-    stop_or_reads bucket line at.ahead at.behind before stored after at.read stop (subst (λ l. Reads bucket l before after) at.split h)
+pub stop_or_all : (mode : LineMode) (bucket file line : List ℕ) (before stored after : List StoredPoint) (number : ℕ) → StopsAt mode bucket file before number line stored → Stops mode bucket line stored → Reads mode bucket (lines_of file) before after → ⊥
+stop_or_all mode bucket file line before stored after number at stop h =
+    stop_or_reads mode bucket line at.ahead at.behind before stored after at.read stop (subst (λ l. Reads mode bucket l before after) at.split h)
 
 -- the line at which a load stops is one
 pub record SameStop (m n : ℕ) (line line' : List ℕ) (stored stored' : List StoredPoint) : Type 0 where
@@ -137,20 +138,20 @@ pub record SameStop (m n : ℕ) (line line' : List ℕ) (stored stored' : List S
   pub line_is : line ≡ line'
   pub stored_is : stored ≡ stored'
 
-module _ (bucket file : List ℕ) (before : List StoredPoint) where
-  pub same_stop : (line line' : List ℕ) (stored stored' : List StoredPoint) (m n : ℕ) → StopsAt bucket file before m line stored → StopsAt bucket file before n line' stored' → Stops bucket line stored → Stops bucket line' stored'
+module _ (mode : LineMode) (bucket file : List ℕ) (before : List StoredPoint) where
+  pub same_stop : (line line' : List ℕ) (stored stored' : List StoredPoint) (m n : ℕ) → StopsAt mode bucket file before m line stored → StopsAt mode bucket file before n line' stored' → Stops mode bucket line stored → Stops mode bucket line' stored'
       → SameStop m n line line' stored stored'
   same_stop line line' stored stored' m n g h stop stop' = by (cuts g.ahead h.ahead g.behind h.behind line line' (sym g.split ∙ h.split))
     where
       by : AreCuts g.ahead line h.ahead line' → SameStop m n line line' stored stored'
       by (inl same) =
-          let read = subst (λ l. Reads bucket l before stored) same.0 g.read in
+          let read = subst (λ l. Reads mode bucket l before stored) same.0 g.read in
           record {
             number = g.counted ∙ ap (λ l. length l + 1) same.0 ∙ sym h.counted;
             line_is = same.1;
-            stored_is = same_reads bucket h.ahead before stored stored' read h.read;
+            stored_is = same_reads mode bucket h.ahead before stored stored' read h.read;
           }
       by (inr (inl past)) =
-          absurd (stop_or_reads bucket line g.ahead past.0 before stored stored' g.read stop (subst (λ l. Reads bucket l before stored') past.1 h.read))
+          absurd (stop_or_reads mode bucket line g.ahead past.0 before stored stored' g.read stop (subst (λ l. Reads mode bucket l before stored') past.1 h.read))
       by (inr (inr past)) =
-          absurd (stop_or_reads bucket line' h.ahead past.0 before stored' stored h.read stop' (subst (λ l. Reads bucket l before stored) past.1 g.read))
+          absurd (stop_or_reads mode bucket line' h.ahead past.0 before stored' stored h.read stop' (subst (λ l. Reads mode bucket l before stored) past.1 g.read))

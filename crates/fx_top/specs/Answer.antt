@@ -1,4 +1,5 @@
 -- What the answers of the top call say.
+use Rattle.fx_line.specs.declared.line.LineMode.{LineMode}
 use Rattle.std.specs.Prelude.{◌≡◌, ℕ, ◌+◌, ◌<◌, ◌≤◌, Bool, List, [], ◌∷◌, length, take, codes, Option, Some, Ok, Err, ◌⊎◌}
 use Rattle.fx_base.specs.Outside.{Told, appended, Rose}
 use Rattle.fx_data.specs.declared.table.Table.{Table}
@@ -21,25 +22,25 @@ abbrev pub yield_text : List Table → List ℕ
 yield_text tables = printed (codes "_result") tables
 
 -- the file's lines take no stored points to these, and the query over them yields these tables
-pub record Yields (c : Command) (q : Query) (file : List ℕ) (tables : List Table) : Type 0 where
+pub record Yields (mode : LineMode) (c : Command) (q : Query) (file : List ℕ) (tables : List Table) : Type 0 where
   pub stored : List StoredPoint
-  pub read : Reads c.bucket (lines_of file) [] stored
+  pub read : Reads mode c.bucket (lines_of file) [] stored
   pub run : run_of q (c.bucket ∷ []) stored ≡ Ok tables
 
 -- the end of a run over a file, by what was written before and after it: the bytes written are those of evaluating the
 -- query directly over all loaded points, or the named refusal or fault
-abbrev pub EndsAs : Command → Query → List ℕ → Option (List ℕ) → Option (List ℕ) → Outcome → Type 0
-EndsAs c q file old new outcome.Done = (tables : List Table) × Yields c q file tables × (new ≡ appended old (yield_text tables))
-EndsAs c q file old new (outcome.Line name number cause) = (line : List ℕ) × (stored : List StoredPoint) × StopsAt c.bucket file [] number line stored × IsCause c.bucket line stored cause × (name ≡ c.file) × (new ≡ old)
-EndsAs c q file old new (outcome.TooMany name number) = (line : List ℕ) × (stored : List StoredPoint) × StopsAt c.bucket file [] number line stored × IsTooMany c.bucket line stored × (name ≡ c.file) × (new ≡ old)
-EndsAs c q file old new (outcome.Fault fault) = (stored : List StoredPoint) × Reads c.bucket (lines_of file) [] stored × (run_of q (c.bucket ∷ []) stored ≡ Err fault) × (new ≡ old)
-EndsAs c q file old new outcome.SinkFault = (tables : List Table) × (n : ℕ) × Yields c q file tables × (new ≡ appended old (take n (yield_text tables)))
-EndsAs c q file old new outcome.Memory = (new ≡ old) ⊎ ((tables : List Table) × (n : ℕ) × Yields c q file tables × (new ≡ appended old (take n (yield_text tables))))
-EndsAs c q file old new outcome.Usage = ⊥
-EndsAs c q file old new (outcome.FileFault name) = ⊥
-EndsAs c q file old new (outcome.TooLong name taken) = ⊥
-EndsAs c q file old new outcome.NotBuilt = ⊥
-EndsAs c q file old new (outcome.Syntax place deep) = ⊥
+abbrev pub EndsAs : LineMode → Command → Query → List ℕ → Option (List ℕ) → Option (List ℕ) → Outcome → Type 0
+EndsAs mode c q file old new outcome.Done = (tables : List Table) × Yields mode c q file tables × (new ≡ appended old (yield_text tables))
+EndsAs mode c q file old new (outcome.Line name number cause) = (line : List ℕ) × (stored : List StoredPoint) × StopsAt mode c.bucket file [] number line stored × IsCause mode c.bucket line stored cause × (name ≡ c.file) × (new ≡ old)
+EndsAs mode c q file old new (outcome.TooMany name number) = (line : List ℕ) × (stored : List StoredPoint) × StopsAt mode c.bucket file [] number line stored × IsTooMany mode c.bucket line stored × (name ≡ c.file) × (new ≡ old)
+EndsAs mode c q file old new (outcome.Fault fault) = (stored : List StoredPoint) × Reads mode c.bucket (lines_of file) [] stored × (run_of q (c.bucket ∷ []) stored ≡ Err fault) × (new ≡ old)
+EndsAs mode c q file old new outcome.SinkFault = (tables : List Table) × (n : ℕ) × Yields mode c q file tables × (new ≡ appended old (take n (yield_text tables)))
+EndsAs mode c q file old new outcome.Memory = (new ≡ old) ⊎ ((tables : List Table) × (n : ℕ) × Yields mode c q file tables × (new ≡ appended old (take n (yield_text tables))))
+EndsAs mode c q file old new outcome.Usage = ⊥
+EndsAs mode c q file old new (outcome.FileFault name) = ⊥
+EndsAs mode c q file old new (outcome.TooLong name taken) = ⊥
+EndsAs mode c q file old new outcome.NotBuilt = ⊥
+EndsAs mode c q file old new (outcome.Syntax place deep) = ⊥
 
 -- a file is told to hold these bytes, within a limit
 pub record IsTold (told : Told) (name : List ℕ) (limit : ℕ) (bytes : List ℕ) : Type 0 where
@@ -60,13 +61,13 @@ pub record Asks (told : Told) (words : List (List ℕ)) (c : Command) (q : Query
   pub query : IsScript script q
 
 -- a run over the bytes of the command's file
-pub record Runs (told : Told) (words : List (List ℕ)) (old new : Option (List ℕ)) (o : Outcome) : Type 0 where
+pub record Runs (mode : LineMode) (told : Told) (words : List (List ℕ)) (old new : Option (List ℕ)) (o : Outcome) : Type 0 where
   pub command : Command
   pub query : Query
   pub file : List ℕ
   pub asks : Asks told words command query
   pub data_file : IsTold told command.file MOST_FILE_BYTES file
-  pub ends : EndsAs command query file old new o
+  pub ends : EndsAs mode command query file old new o
 
 -- the load of a file is reached, by its name and its limit: that of the script, or past a good script that of the data
 abbrev pub Reaches : Told → List (List ℕ) → List ℕ → ℕ → Type 0
@@ -82,14 +83,14 @@ pub record HasScript (P : List ℕ → Type 0) (told : Told) (words : List (List
   pub has : P script
 
 -- the answers over files that tell their content, in the order of the refusals
-abbrev pub Answers : Told → List (List ℕ) → Option (List ℕ) → Option (List ℕ) → Outcome → Type 0
-Answers told words old new outcome.Usage = ((c : Command) → IsCommand words c → ⊥) × (new ≡ old)
-Answers told words old new (outcome.FileFault name) = (limit : ℕ) × Reaches told words name limit × (new ≡ old)
-Answers told words old new (outcome.TooLong name taken) = (limit : ℕ) × Reaches told words name limit × IsLong told name limit × (taken ≡ limit + 1) × (new ≡ old)
-Answers told words old new (outcome.Syntax place deep) = HasScript (λ script. IsSyntax script place.at deep) told words × (new ≡ old)
-Answers told words old new outcome.NotBuilt = HasScript IsNotBuilt told words × (new ≡ old)
-Answers told words old new outcome.Memory = (new ≡ old) ⊎ Runs told words old new outcome.Memory
-Answers told words old new o = Runs told words old new o
+abbrev pub Answers : LineMode → Told → List (List ℕ) → Option (List ℕ) → Option (List ℕ) → Outcome → Type 0
+Answers mode told words old new outcome.Usage = ((c : Command) → IsCommand words c → ⊥) × (new ≡ old)
+Answers mode told words old new (outcome.FileFault name) = (limit : ℕ) × Reaches told words name limit × (new ≡ old)
+Answers mode told words old new (outcome.TooLong name taken) = (limit : ℕ) × Reaches told words name limit × IsLong told name limit × (taken ≡ limit + 1) × (new ≡ old)
+Answers mode told words old new (outcome.Syntax place deep) = HasScript (λ script. IsSyntax script place.at deep) told words × (new ≡ old)
+Answers mode told words old new outcome.NotBuilt = HasScript IsNotBuilt told words × (new ≡ old)
+Answers mode told words old new outcome.Memory = (new ≡ old) ⊎ Runs mode told words old new outcome.Memory
+Answers mode told words old new o = Runs mode told words old new o
 
 -- what is written whatever the files tell: the text of one whole yield, a prefix of it where the sink or the memory
 -- refused, and nothing before a refusal

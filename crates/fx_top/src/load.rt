@@ -1,9 +1,10 @@
-ghost use Rattle.std.specs.Prelude.{◌≡◌, ℕ, ◌≤◌, ◌<◌, ◌+◌, ◌∷◌, List, length};
+ghost use Rattle.std.specs.Prelude.{◌≡◌, ℕ, ◌≤◌, ◌<◌, ◌+◌, ◌++◌, ◌∷◌, [], List, length, All, IsTrue, IfSome, IfNone};
+ghost use Rattle.fx_line.specs.Line.{is_factor};
 ghost use Rattle.fx_line.specs.Stored.{StoredPoint, IsLawful};
 ghost use Rattle.fx_series.specs.Store.{StandsFor};
 ghost use Rattle.std.specs.Option.{option_map};
-ghost use Rattle.fx_top.specs.Bytes.{lines_of, lines_left, bytes_left};
-ghost use Rattle.fx_top.specs.Load.{IsReady, PointLoads, LineLoads, FileLoads, stop_at};
+ghost use Rattle.fx_top.specs.Bytes.{lines_of, lines_left, bytes_left, without_return};
+ghost use Rattle.fx_top.specs.Load.{IsReady, PointLoads, PointsLoad, LineLoads, FileLoads, stop_at};
 
 use crate::bytes::cut;
 use crate::cause::LineCause;
@@ -48,25 +49,48 @@ pub enum LoadStop {
 pub fn load_file(
     alloc: Global,
     file: &[u8],
+    mode: LineMode,
     bucket: &Text,
     store: &mut Store,
 ) -> Result<(), LoadStop>
     requires bytes { length file.now ≤ 67108864 }
+    requires factor { IsTrue (is_factor mode.factor) }
     requires ready { IsReady store.old bucket.now }
-    ensures { (buckets : List (List ℕ)) (stored : List StoredPoint) → StandsFor store.old buckets stored → FileLoads buckets bucket.now file.now stored store.new result }
+    ensures { (buckets : List (List ℕ)) (stored : List StoredPoint) → StandsFor store.old buckets stored → FileLoads mode buckets bucket.now file.now stored store.new result }
 {
     let mut rest = Some(file);
     let mut number: u64 = 0;
     while let Some(text) = rest {
         let (line, behind) = first_line(text);
         number += 1;
-        match load_line(alloc, line, bucket, store) {
+        match load_line(alloc, line, mode, bucket, store) {
             Ok(()) => {}
             Err(stop) => return Err(stop.at_line(number)),
         }
         rest = behind;
     }
     Ok(())
+}
+
+/// What stands before a carriage return that the bytes end with.
+fn before_return(bytes: &[u8]) -> Option<&[u8]>
+    ensures found { IfSome result (λ r. bytes.now ≡ r.now ++ 13 ∷ []) }
+    ensures none { IfNone result ((r : List ℕ) → bytes.now ≡ r ++ 13 ∷ [] → ⊥) }
+{
+    match bytes {
+        [rest @ .., b'\r'] => Some(rest),
+        _ => None,
+    }
+}
+
+/// The bytes without a carriage return at the end.
+fn without_return(bytes: &[u8]) -> &[u8]
+    ensures { result.now ≡ without_return bytes.now }
+{
+    match before_return(bytes) {
+        Some(rest) => rest,
+        None => bytes,
+    }
 }
 
 /// The first line of a text, and what stands behind its line feed.
@@ -76,30 +100,45 @@ fn first_line(text: &[u8]) -> (&[u8], Option<&[u8]>)
     ensures small { length result.0.now ≤ length text.now }
 {
     match cut(text, b'\n') {
-        Some((line, behind)) => (line, Some(behind)),
+        Some((line, behind)) => (without_return(line), Some(behind)),
         None => (text, None),
     }
 }
 
 /// Stores the points of one line in a bucket.
-fn load_line(alloc: Global, line: &[u8], bucket: &Text, store: &mut Store) -> Result<(), LineStop>
+fn load_line(
+    alloc: Global,
+    line: &[u8],
+    mode: LineMode,
+    bucket: &Text,
+    store: &mut Store,
+) -> Result<(), LineStop>
     requires bytes { length line.now ≤ 67108864 }
+    requires factor { IsTrue (is_factor mode.factor) }
     requires ready { IsReady store.old bucket.now }
-    ensures { (buckets : List (List ℕ)) (stored : List StoredPoint) → StandsFor store.old buckets stored → LineLoads buckets bucket.now line.now stored store.new result }
+    ensures { (buckets : List (List ℕ)) (stored : List StoredPoint) → StandsFor store.old buckets stored → LineLoads mode buckets bucket.now line.now stored store.new result }
 {
-    let mode = LineMode {
-        factor: 1,
-        moment: 0,
-        skip_floats: false,
-    };
     match read_line(alloc, line, mode) {
-        Ok(read) => match read.points.into_vec().pop() {
-            None => Ok(()),
-            Some(point) => put_point(point, bucket, store),
-        },
+        Ok(read) => put_points(read.points.into_vec(), bucket, store),
         Err(LineFault::Refused(error)) => Err(LineStop::Refused(LineCause::Form(error))),
         Err(LineFault::Memory) => Err(LineStop::Memory),
     }
+}
+
+/// Stores points in a bucket, one after another, up to the first that is refused.
+fn put_points(mut points: Vec<Point>, bucket: &Text, store: &mut Store) -> Result<(), LineStop>
+    requires lawful { All IsLawful points.items }
+    requires ready { IsReady store.old bucket.now }
+    ensures { (buckets : List (List ℕ)) (stored : List StoredPoint) → StandsFor store.old buckets stored → PointsLoad buckets bucket.now points.items stored store.new result }
+{
+    points.reverse();
+    while let Some(point) = points.pop() {
+        match put_point(point, bucket, store) {
+            Ok(()) => {}
+            Err(stop) => return Err(stop),
+        }
+    }
+    Ok(())
 }
 
 /// Stores one point in a bucket.

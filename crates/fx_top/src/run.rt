@@ -1,5 +1,6 @@
-ghost use Rattle.std.specs.Prelude.{◌≡◌, ℕ, ◌≤◌, ◌<◌, ◌^◌, ◌-◌, List, [], ◌∷◌, length, Some, IfOk};
+ghost use Rattle.std.specs.Prelude.{◌≡◌, ℕ, ◌≤◌, ◌<◌, ◌^◌, ◌-◌, List, [], ◌∷◌, length, Some, IfOk, IsTrue};
 ghost use Rattle.fx_base.specs.Outside.{Told};
+ghost use Rattle.fx_line.specs.Line.{is_factor};
 ghost use Rattle.fx_line.specs.Stored.{StoredPoint};
 ghost use Rattle.fx_series.specs.Store.{StandsFor};
 ghost use Rattle.fx_top.specs.Command.{IsCommand};
@@ -14,6 +15,7 @@ use crate::script::{ScriptStop, read_script};
 use crate::source::query_tables;
 use fx_base::{Fault, FaultKind, FileFault, Files, Memory, Sink, SinkFault, Steps, Text};
 use fx_csv::write_yield;
+use fx_line::LineMode;
 use fx_series::Store;
 use std::alloc::Global;
 use std::sync::ledger::Ledger;
@@ -45,11 +47,13 @@ fn without_script(alloc: Global, outcome: Outcome) -> Ended
 pub fn run<F: Files, O: Sink, L: Ledger>(
     alloc: Global,
     words: &[Text],
+    mode: LineMode,
     files: &mut F,
     out: &mut O,
     steps: &mut Steps<L>,
 ) -> Ended
-    ensures answers { (told : Told) → F.content files.old ≡ Some told → Answers told words.now (O.written out.old) (O.written out.new) result.outcome }
+    requires factor { IsTrue (is_factor mode.factor) }
+    ensures answers { (told : Told) → F.content files.old ≡ Some told → Answers mode told words.now (O.written out.old) (O.written out.new) result.outcome }
     ensures shows { (told : Told) → F.content files.old ≡ Some told → Shows told words.now result.outcome result.script.items }
     ensures causes { Causes (F.faults files.old) (F.faults files.new) (O.faults out.old) (O.faults out.new) result.outcome }
     ensures writes { Writes (O.written out.old) (O.written out.new) result.outcome }
@@ -58,7 +62,7 @@ pub fn run<F: Files, O: Sink, L: Ledger>(
     match read_words(alloc, words) {
         Err(_) => without_script(alloc, Outcome::Memory),
         Ok(None) => without_script(alloc, Outcome::Usage),
-        Ok(Some(command)) => run_command(alloc, &command, files, out, steps),
+        Ok(Some(command)) => run_command(alloc, &command, mode, files, out, steps),
     }
 }
 
@@ -66,11 +70,13 @@ pub fn run<F: Files, O: Sink, L: Ledger>(
 fn run_command<F: Files, O: Sink, L: Ledger>(
     alloc: Global,
     command: &Command,
+    mode: LineMode,
     files: &mut F,
     out: &mut O,
     steps: &mut Steps<L>,
 ) -> Ended
-    ensures answers { (told : Told) (words : List (List ℕ)) → F.content files.old ≡ Some told → IsCommand words command.now → Answers told words (O.written out.old) (O.written out.new) result.outcome }
+    requires factor { IsTrue (is_factor mode.factor) }
+    ensures answers { (told : Told) (words : List (List ℕ)) → F.content files.old ≡ Some told → IsCommand words command.now → Answers mode told words (O.written out.old) (O.written out.new) result.outcome }
     ensures shows { (told : Told) (words : List (List ℕ)) → F.content files.old ≡ Some told → IsCommand words command.now → Shows told words result.outcome result.script.items }
     ensures causes { Causes (F.faults files.old) (F.faults files.new) (O.faults out.old) (O.faults out.new) result.outcome }
     ensures writes { Writes (O.written out.old) (O.written out.new) result.outcome }
@@ -78,7 +84,7 @@ fn run_command<F: Files, O: Sink, L: Ledger>(
 {
     match load(alloc, &command.script, MOST_SCRIPT_BYTES, files) {
         Ok(script) => Ended {
-            outcome: run_script(alloc, command, script.as_slice(), files, out, steps),
+            outcome: run_script(alloc, command, mode, script.as_slice(), files, out, steps),
             script,
         },
         Err(refusal) => without_script(alloc, refusal),
@@ -89,19 +95,21 @@ fn run_command<F: Files, O: Sink, L: Ledger>(
 fn run_script<F: Files, O: Sink, L: Ledger>(
     alloc: Global,
     command: &Command,
+    mode: LineMode,
     script: &[u8],
     files: &mut F,
     out: &mut O,
     steps: &mut Steps<L>,
 ) -> Outcome
     requires bytes { length script.now ≤ MOST_SCRIPT_BYTES }
-    ensures answers { (told : Told) (words : List (List ℕ)) → F.content files.old ≡ Some told → IsCommand words command.now → IsTold told command.now.script MOST_SCRIPT_BYTES script.now → Answers told words (O.written out.old) (O.written out.new) result }
+    requires factor { IsTrue (is_factor mode.factor) }
+    ensures answers { (told : Told) (words : List (List ℕ)) → F.content files.old ≡ Some told → IsCommand words command.now → IsTold told command.now.script MOST_SCRIPT_BYTES script.now → Answers mode told words (O.written out.old) (O.written out.new) result }
     ensures causes { Causes (F.faults files.old) (F.faults files.new) (O.faults out.old) (O.faults out.new) result }
     ensures writes { Writes (O.written out.old) (O.written out.new) result }
     ensures names { (words : List (List ℕ)) → IsCommand words command.now → NamesFile words result }
 {
     match read_script(alloc, script) {
-        Ok(query) => run_query(alloc, command, &query, files, out, steps),
+        Ok(query) => run_query(alloc, command, mode, &query, files, out, steps),
         Err(ScriptStop::Syntax { place, deep }) => Outcome::Syntax { place, deep },
         Err(ScriptStop::NotBuilt) => Outcome::NotBuilt,
         Err(ScriptStop::Memory) => Outcome::Memory,
@@ -112,18 +120,20 @@ fn run_script<F: Files, O: Sink, L: Ledger>(
 fn run_query<F: Files, O: Sink, L: Ledger>(
     alloc: Global,
     command: &Command,
+    mode: LineMode,
     query: &Query,
     files: &mut F,
     out: &mut O,
     steps: &mut Steps<L>,
 ) -> Outcome
-    ensures answers { (told : Told) (words : List (List ℕ)) → F.content files.old ≡ Some told → Asks told words command.now query.now → Answers told words (O.written out.old) (O.written out.new) result }
+    requires factor { IsTrue (is_factor mode.factor) }
+    ensures answers { (told : Told) (words : List (List ℕ)) → F.content files.old ≡ Some told → Asks told words command.now query.now → Answers mode told words (O.written out.old) (O.written out.new) result }
     ensures causes { Causes (F.faults files.old) (F.faults files.new) (O.faults out.old) (O.faults out.new) result }
     ensures writes { Writes (O.written out.old) (O.written out.new) result }
     ensures names { (words : List (List ℕ)) → IsCommand words command.now → NamesFile words result }
 {
     match load(alloc, &command.file, MOST_FILE_BYTES, files) {
-        Ok(file) => run_over(alloc, command, query, file.as_slice(), out, steps),
+        Ok(file) => run_over(alloc, command, mode, query, file.as_slice(), out, steps),
         Err(refusal) => refusal,
     }
 }
@@ -153,19 +163,21 @@ fn load<F: Files>(alloc: Global, name: &Text, limit: u64, files: &mut F) -> Resu
 fn run_over<O: Sink, L: Ledger>(
     alloc: Global,
     command: &Command,
+    mode: LineMode,
     query: &Query,
     file: &[u8],
     out: &mut O,
     steps: &mut Steps<L>,
 ) -> Outcome
     requires bytes { length file.now ≤ MOST_FILE_BYTES }
-    ensures ends { EndsAs command.now query.now file.now (O.written out.old) (O.written out.new) result }
+    requires factor { IsTrue (is_factor mode.factor) }
+    ensures ends { EndsAs mode command.now query.now file.now (O.written out.old) (O.written out.new) result }
     ensures causes { RunCauses (O.faults out.old) (O.faults out.new) result }
 {
     let Ok(mut store) = store_of(alloc, &command.bucket) else {
         return Outcome::Memory;
     };
-    match load_file(alloc, file, &command.bucket, &mut store) {
+    match load_file(alloc, file, mode, &command.bucket, &mut store) {
         Ok(()) => yield_query(alloc, query, &store, out, steps),
         Err(stop) => stop_outcome(stop, &command.file),
     }

@@ -1,6 +1,10 @@
-use Rattle.std.proofs.Common.{◌≡◌, ◌-◌, ◌^◌, min, take}
-use Rattle.fx_line.specs.Line.{natural}
+use Rattle.std.proofs.Common.{◌≡◌, ◌-◌, ◌^◌, min, length}
+use Rattle.fx_line.specs.Value.{natural}
+use Rattle.fx_line.proofs.Numbers.{IsSoFar}
 use Rattle.fx_line.proofs.number.natural.Given as goal
 
-abbrev pub invariant-loop-digit : goal.invariant-loop-digit
-invariant-loop-digit l = l.number ≡ min (natural (take l.digit-index l.digits)) (2 ^ 64 - 1)
+abbrev pub invariant-loop-rest : goal.invariant-loop-rest
+invariant-loop-rest l = IsSoFar l.bytes l.number l.rest
+
+abbrev pub decreases-loop-rest : goal.decreases-loop-rest
+decreases-loop-rest l = length l.rest

@@ -10,8 +10,8 @@ returns-then-rises-clause-found c =
     let up : rises after ≡ true = ap rises (sym c.as_slice.ensures.value) ∙ sym c.rises.ensures ∙ c.if-rises.true in
     (distinct_if_rises before after c.sort_by_key.ensures.stable up, sorted_if_rises before after c.sort_by_key.ensures.stable up)
 
-pub returns-clause-none : goal.returns-clause-none
-returns-clause-none c =
+pub returns-else-rises-clause-none : goal.returns-else-rises-clause-none
+returns-else-rises-clause-none c =
     let before = c.args.tags.items in
     let after = c.sort_by_key.new.tags.items in
     let flat : rises after ≡ false = ap rises (sym c.as_slice.ensures.value) ∙ sym c.rises.ensures ∙ c.if-rises.false in

@@ -9,9 +9,9 @@ pub returns-in-Err : goal.returns-in-Err
 returns-in-Err c = λ buckets stored stands.
     let had = c.loop-rest.invariant.read buckets stored stands in
     let lines = ap (λ o. lines_left (option_map (λ t. t.now) o)) c.in-Some.is ∙ c.first_line.ensures.lines in
-    let at = stops buckets c.args.bucket.now c.args.file.now c.first_line.result.0.now stored c.loop-rest.number (option_map (λ t. t.now) c.loop-rest.rest) (lines_left (option_map (λ t. t.now) c.first_line.result.1)) c.loop-rest.store had lines in
-    subst (λ stop. FileLoads buckets c.args.bucket.now c.args.file.now stored c.load_line.new.store (Err stop)) (sym c.at_line.ensures)
-    (stop_loads buckets c.args.bucket.now c.args.file.now c.first_line.result.0.now stored had.stored (c.loop-rest.number + 1) c.load_line.new.store c.load_line.new.store c.in-Err.stop at (c.in-Err.ensures buckets had.stored had.stands))
+    let at = stops c.args.mode buckets c.args.bucket.now c.args.file.now c.first_line.result.0.now stored c.loop-rest.number (option_map (λ t. t.now) c.loop-rest.rest) (lines_left (option_map (λ t. t.now) c.first_line.result.1)) c.loop-rest.store had lines in
+    subst (λ stop. FileLoads c.args.mode buckets c.args.bucket.now c.args.file.now stored c.load_line.new.store (Err stop)) (sym c.at_line.ensures)
+    (stop_loads c.args.mode buckets c.args.bucket.now c.args.file.now c.first_line.result.0.now stored had.stored (c.loop-rest.number + 1) c.load_line.new.store c.load_line.new.store c.in-Err.stop at (c.in-Err.ensures buckets had.stored had.stands))
 
 pub loop-rest-preserved : goal.loop-rest-preserved
 loop-rest-preserved c =
@@ -21,13 +21,13 @@ loop-rest-preserved c =
     let taken = c.in-Ok.ensures ready.buckets ready.stored ready.stands in
     record {
       small = omega (arith, c.first_line.ensures.shorter, size, c.loop-rest.invariant.small);
-      ready = ready_after ready.buckets c.args.bucket.now c.first_line.result.0.now ready.stored taken.0 c.loop-rest.store c.load_line.new.store ready.added ready.stands taken.1 taken.2;
+      ready = ready_after c.args.mode ready.buckets c.args.bucket.now c.first_line.result.0.now ready.stored taken.0 c.loop-rest.store c.load_line.new.store ready.added ready.stands taken.1 taken.2;
       read = λ buckets stored stands.
           let had = c.loop-rest.invariant.read buckets stored stands in
           let more = c.in-Ok.ensures buckets had.stored had.stands in
-          read_more buckets c.args.bucket.now c.args.file.now c.first_line.result.0.now stored more.0 c.loop-rest.number (option_map (λ t. t.now) c.loop-rest.rest) (option_map (λ t. t.now) c.first_line.result.1) c.loop-rest.store c.load_line.new.store had lines more.1 more.2;
+          read_more c.args.mode buckets c.args.bucket.now c.args.file.now c.first_line.result.0.now stored more.0 c.loop-rest.number (option_map (λ t. t.now) c.loop-rest.rest) (option_map (λ t. t.now) c.first_line.result.1) c.loop-rest.store c.load_line.new.store had lines more.1 more.2;
     }
 
 pub returns : goal.returns
-returns c = λ buckets stored stands. all_read buckets c.args.bucket.now c.args.file.now stored c.loop-rest.number c.loop-rest.store
-    (subst (λ o. HasRead buckets c.args.bucket.now c.args.file.now stored c.loop-rest.number (option_map (λ t. t.now) o) c.loop-rest.store) c.in_default.is (c.loop-rest.invariant.read buckets stored stands))
+returns c = λ buckets stored stands. all_read c.args.mode buckets c.args.bucket.now c.args.file.now stored c.loop-rest.number c.loop-rest.store
+    (subst (λ o. HasRead c.args.mode buckets c.args.bucket.now c.args.file.now stored c.loop-rest.number (option_map (λ t. t.now) o) c.loop-rest.store) c.in_default.is (c.loop-rest.invariant.read buckets stored stands))

@@ -11,7 +11,7 @@ abbrev pub invariant-loop-rest : goal.invariant-loop-rest
 invariant-loop-rest l = record {
   small : l.number + bytes_left (option_map (λ t. t.now) l.rest) ≤ length l.file + 1;
   ready : IsReady l.store l.bucket;
-  read : (buckets : List (List ℕ)) (stored : List StoredPoint) → StandsFor l.initial.store buckets stored → HasRead buckets l.bucket l.file stored l.number (option_map (λ t. t.now) l.rest) l.store;
+  read : (buckets : List (List ℕ)) (stored : List StoredPoint) → StandsFor l.initial.store buckets stored → HasRead l.mode buckets l.bucket l.file stored l.number (option_map (λ t. t.now) l.rest) l.store;
 }
 
 abbrev pub decreases-loop-rest : goal.decreases-loop-rest

@@ -11,8 +11,8 @@ returns-in-Ok-clause-answers g c = λ told words tells is.
 
 pub returns-in-Err-clause-answers : goal.returns-in-Err-clause-answers
 returns-in-Err-clause-answers g c = λ told words tells is.
-    subst (Answers told words (g.O.Sink.written c.args.out.now) (g.O.Sink.written c.args.out.now)) (sym c.without_script.ensures)
-    (file_answers told words c.args.command.now.script MOST_SCRIPT_BYTES (g.O.Sink.written c.args.out.now) c.in-Err.refusal
+    subst (Answers c.args.mode told words (g.O.Sink.written c.args.out.now) (g.O.Sink.written c.args.out.now)) (sym c.without_script.ensures)
+    (file_answers c.args.mode told words c.args.command.now.script MOST_SCRIPT_BYTES (g.O.Sink.written c.args.out.now) c.in-Err.refusal
     (inl (c.args.command.now, (is, refl, refl))) (c.in-Err.ensures.told told tells))
 
 pub returns-in-Err-clause-writes : goal.returns-in-Err-clause-writes

@@ -13,9 +13,9 @@ yield_query-requires g c =
 pub returns-in-Ok-load_file-clause-ends : goal.returns-in-Ok-load_file-clause-ends
 returns-in-Ok-load_file-clause-ends g c =
     let loaded = c.in-Ok-load_file.ensures (c.args.command.now.bucket ∷ []) [] c.in-Ok.ensures in
-    data_ends c.args.command.now c.args.query.now c.args.file.now loaded.0 (g.O.Sink.written c.args.out.now) (g.O.Sink.written c.yield_query.new.out) c.yield_query.result loaded.1
+    data_ends c.args.mode c.args.command.now c.args.query.now c.args.file.now loaded.0 (g.O.Sink.written c.args.out.now) (g.O.Sink.written c.yield_query.new.out) c.yield_query.result loaded.1
     (c.yield_query.ensures.ends (c.args.command.now.bucket ∷ []) loaded.0 loaded.2)
 
 pub returns-clause-ends : goal.returns-clause-ends
 returns-clause-ends g c =
-    stop_ends c.args.command.now c.args.query.now c.args.file.now c.load_file.new.store (g.O.Sink.written c.args.out.now) c.in-Err.stop c.stop_outcome.result (c.in-Err.ensures (c.args.command.now.bucket ∷ []) [] c.in-Ok.ensures) c.stop_outcome.ensures
+    stop_ends c.args.mode c.args.command.now c.args.query.now c.args.file.now c.load_file.new.store (g.O.Sink.written c.args.out.now) c.in-Err.stop c.stop_outcome.result (c.in-Err.ensures (c.args.command.now.bucket ∷ []) [] c.in-Ok.ensures) c.stop_outcome.ensures
