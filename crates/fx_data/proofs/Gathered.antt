@@ -1,18 +1,18 @@
 -- Tables gathered under their keys.
-use Rattle.std.proofs.Common.{◌≡◌, Bool, true, false, T, List, [], ◌∷◌, ◌++◌, map, refl, sym, ap, subst, ◌∙◌, append_assoc}
+use Rattle.std.proofs.Common.{◌≡◌, Bool, true, false, List, [], ◌∷◌, ◌++◌, map, refl, sym, ap, subst, ◌∙◌, append_assoc}
 use Rattle.std.proofs.lemmas.List.{append-nil}
-use Rattle.std.specs.Prelude.{cond, ◌||◌, ◌&&◌, Option, None, Some}
+use Rattle.std.specs.Prelude.{cond, ◌||◌, Option, None, Some}
 use Rattle.std.specs.declared.cmp.Ordering.TheVariants.{Less}
-use Rattle.std.specs.Ordering.{is_eq, eq_by_cmp, is_lt}
+use Rattle.std.specs.Ordering.{is_eq, eq_by_cmp}
 use Rattle.std.specs.Option.{unwrap_or}
 use Rattle.std.specs.List.{AllByRecursion, filter, flat_map, list_any}
 use Rattle.std.specs.List.Sorted.{IsStrictlySortedBy}
 use Rattle.std.specs.Map.{keys_of, lookup}
 use Rattle.std.specs.BTreeMap.{is_at}
-use Rattle.std.specs.Cmp.{eq_by_cmp_equiv, Equal-is}
+use Rattle.std.specs.Cmp.{Equal-is}
 use Rattle.std.specs.FinMap as fin
 use Rattle.std.specs.FinMap.{FinMap}
-use Rattle.std.specs.FinMap.Entries.{find, is_sorted, below_all, same_entries}
+use Rattle.std.specs.FinMap.Entries.{find, same_entries}
 use Rattle.fx_base.specs.Text.{text_cmp}
 use Rattle.fx_value.specs.declared.scalar.Scalar.{Scalar}
 use Rattle.fx_data.specs.declared.key.Key.{Key}
@@ -24,18 +24,6 @@ use Rattle.fx_data.proofs.Sorted.{sorted_keys}
 
 abbrev pub Rows : Type 0
 Rows = List (FinMap text_cmp Scalar)
-
--- a map that lost a key and took it again with its rows and more has more rows there, and elsewhere is as it was
-pub added : (old : Key → Option Rows) (key k : Key) (new mid : Option Rows) (joined rows : Rows)
-    → new ≡ cond (eq_by_cmp key_cmp key k) (Some joined) mid → mid ≡ cond (eq_by_cmp key_cmp key k) None (old k)
-    → joined ≡ unwrap_or (old key) [] ++ rows
-    → new ≡ cond (eq_by_cmp key_cmp k key) (Some (unwrap_or (old k) [] ++ rows)) (old k)
-added old key k new mid joined rows a b j =
-    elim (eq_by_cmp key_cmp key k) as (λ t. eq_by_cmp key_cmp key k ≡ t → new ≡ cond t (Some joined) mid → mid ≡ cond t None (old k)
-    → new ≡ cond t (Some (unwrap_or (old k) [] ++ rows)) (old k)) [
-      | true ↦ λ t a b. a ∙ ap Some (j ∙ ap (λ q. unwrap_or (old q) [] ++ rows) (key_same key k ((Equal-is _).0 t)))
-      | false ↦ λ t a b. a ∙ b
-    ] refl a b ∙ ap (λ t. cond t (Some (unwrap_or (old k) [] ++ rows)) (old k)) ((eq_by_cmp_equiv key_cmp_total).symm key k)
 
 -- whether a table has this key
 has : Key → List Table → Bool
@@ -125,6 +113,31 @@ get-grouped-append k ts t =
     get-grouped k (ts ++ t ∷ []) ∙ rows_at-append k ts t
     ∙ ap (λ o. cond (eq_by_cmp key_cmp k t.key) (Some (unwrap_or o [] ++ t.rows)) o) (sym (get-grouped k ts))
 
+-- whether anything is left
+any_left : {X : Type 0} → List X → Bool
+any_left [] = false
+any_left (x ∷ xs) = true
+
+has-filter : (k : Key) (ts : List Table) → has k ts ≡ any_left (filter (λ t. eq_by_cmp key_cmp k t.key) ts)
+unfolding has any_left
+has-filter k [] = refl
+has-filter k (t ∷ ts) =
+    elim (eq_by_cmp key_cmp k t.key) as (λ b. (b || has k ts) ≡ any_left (cond b (t ∷ filter (λ u. eq_by_cmp key_cmp k u.key) ts) (filter (λ u. eq_by_cmp key_cmp k u.key) ts))) [
+      | true ↦ refl
+      | false ↦ has-filter k ts
+    ]
+
+-- tables of which those with one key are the same, key by key, make the same groups
+pub grouped_by_rows : (ts us : List Table) → ((k : Key) → filter (λ t. eq_by_cmp key_cmp k t.key) ts ≡ filter (λ t. eq_by_cmp key_cmp k t.key) us) → grouped ts ≡ grouped us
+unfolding rows_at
+grouped_by_rows ts us same =
+    fin.same_map key_cmp_total key_same _ _ (λ k.
+    get-grouped k ts
+    ∙ (λ i. cond (has-filter k ts i) (Some (rows_with k ts)) None)
+    ∙ (λ i. cond (any_left (same k i)) (Some (flat_map (λ (t : Table). t.rows) (same k i))) None)
+    ∙ (λ i. cond (sym (has-filter k us) i) (Some (rows_with k us)) None)
+    ∙ sym (get-grouped k us))
+
 -- ---- as lists in the order of the keys
 
 lookup-find : (k : Key) (es : List (Key × Rows)) → lookup (is_at (key_cmp k)) es ≡ find key_cmp k es
@@ -132,17 +145,12 @@ lookup-find k [] = refl
 lookup-find k (e ∷ es) = ap (cond (eq_by_cmp key_cmp k e.0) (Some e.1)) (lookup-find k es)
 
 -- entries that answer as the groups do are theirs
-pub entries_are : (es : List (Key × Rows)) (ts : List Table) → IsStrictlySortedBy key_cmp (keys_of es)
+entries_are : (es : List (Key × Rows)) (ts : List Table) → IsStrictlySortedBy key_cmp (keys_of es)
     → ((k : Key) → lookup (is_at (key_cmp k)) es ≡ fin.get (grouped ts) k) → map table_of es ≡ gathered ts
 unfolding gathered
 entries_are es ts sorted answers =
     ap (map table_of) (same_entries key_cmp key_cmp_total key_same es (fin.entries (grouped ts)) (sorted_keys key_cmp es sorted) (fin.entries_sorted (grouped ts))
     (λ k. sym (lookup-find k es) ∙ answers k ∙ fin.get-entries (grouped ts) k))
-
--- no tables make no groups
-pub get-grouped-none : (es : List (Key × Rows)) (k : Key) → es ≡ [] → lookup (is_at (key_cmp k)) es ≡ fin.get (grouped []) k
-unfolding rows_at has
-get-grouped-none es k none = ap (lookup (is_at (key_cmp k))) none ∙ sym (get-grouped k [])
 
 -- ---- tables whose keys rise
 
@@ -179,3 +187,8 @@ pub gathered_rising : (ts : List Table) → IsStrictlySortedBy key_cmp (map (λ 
 gathered_rising ts h =
     sym (entries_are (map pair_of ts) ts (subst (IsStrictlySortedBy key_cmp) (sym (keys-pairs ts)) h)
     (λ k. lookup-find k (map pair_of ts) ∙ find-pairs k ts h ∙ sym (get-grouped k ts))) ∙ tables-pairs ts
+
+-- tables that make the same groups are gathered to the same tables
+pub gathered_same : (ts us : List Table) → grouped ts ≡ grouped us → gathered ts ≡ gathered us
+unfolding gathered
+gathered_same ts us same = ap (λ (groups : FinMap key_cmp Rows). map table_of (fin.entries groups)) same

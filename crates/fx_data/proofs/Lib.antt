@@ -4,6 +4,7 @@ pub mod GatheredRows
 pub mod Keys
 pub mod Lawful
 pub mod Regrouped
+pub mod Merged
 pub mod Rise
 pub mod SharedKeys
 pub mod Sorted

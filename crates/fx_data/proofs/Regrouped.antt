@@ -25,7 +25,7 @@ use Rattle.fx_data.proofs.Gathered.{Rows, get-grouped-append}
 use Rattle.fx_data.proofs.Keys.{key_cmp_total, key_same}
 use Rattle.fx_data.proofs.Lawful.{all-append, bare_lawful, gathered_lawful, lawful_push, lawful_before, lawful_last}
 
-abbrev Row : Type 0
+abbrev pub Row : Type 0
 Row = FinMap text_cmp Scalar
 
 abbrev Groups : Type 0
@@ -52,7 +52,7 @@ pub pushed : (old new : List Table) (t : Table) → new ≡ old ++ t ∷ [] → 
 pushed old new t is = ap grouped is ∙ grouped_push old t
 
 -- rows in two parts, one after the other
-joined_twice : (groups : Groups) (key : Key) (xs ys : Rows)
+pub joined_twice : (groups : Groups) (key : Key) (xs ys : Rows)
     → joined groups (record { key = key; rows = xs ++ ys }) ≡ joined (joined groups (record { key = key; rows = xs })) (record { key = key; rows = ys })
 joined_twice groups key xs ys =
     let first : Table = record { key = key; rows = xs } in

@@ -3,14 +3,11 @@ use Rattle.std.proofs.Common.{◌≡◌, ℕ, suc, zero, ◌+◌, ◌≤◌, ◌
 use Rattle.std.specs.declared.cmp.Ordering.TheVariants.{Less}
 use Rattle.std.specs.List.{AllByRecursion}
 use Rattle.std.specs.List.Sorted.{IsStrictlySortedBy}
+use Rattle.fx_data.specs.Ascending.{Rise}
 use Rattle.fx_data.specs.declared.key.Key.{Key}
 use Rattle.fx_data.specs.declared.table.Table.{Table}
 use Rattle.fx_data.specs.Key.{key_cmp}
 use Rattle.fx_data.proofs.Keys.{key_cmp_total}
-
--- the keys of the tables rise strictly
-abbrev pub Rise : List Table → Type 0
-Rise ts = IsStrictlySortedBy key_cmp (map (λ t. t.key) ts)
 
 above_more : (k l : Key) (ks : List Key) → key_cmp k l ≡ Less → AllByRecursion (λ q. key_cmp l q ≡ Less) ks → AllByRecursion (λ q. key_cmp k q ≡ Less) ks
 above_more k l [] below h = tt

@@ -1,3 +1,4 @@
+pub mod Ascending
 pub mod Columns
 pub mod Gathered
 pub mod Key

@@ -1,21 +1,33 @@
-ghost use Rattle.std.specs.Prelude.{◌≡◌, [], ◌++◌, map, IfOk, OnOk, Some, if◌then◌else◌};
-ghost use Rattle.std.specs.Ordering.{eq_by_cmp};
-ghost use Rattle.std.specs.Option.{unwrap_or};
+ghost use Rattle.std.specs.Prelude.{◌≡◌, false, [], ◌∷◌, ◌++◌, List as AnyList, IfOk};
+ghost use Rattle.std.specs.Ordering.{is_lt};
 ghost use Rattle.std.specs.List.{AllByRecursion};
-ghost use Rattle.std.specs.BTreeMap.{get, IsOrdered};
-ghost use Rattle.fx_data.specs.Gathered.{gathered, rows_under, table_of};
+ghost use Rattle.fx_data.specs.Ascending.{Rise, Ascend, LastHas};
+ghost use Rattle.fx_data.specs.Gathered.{gathered, grouped};
 ghost use Rattle.fx_data.specs.Key.{key_cmp};
-ghost use Rattle.fx_data.specs.Table.{IsLawfulTable};
-ghost use Rattle.fx_data.specs.declared.key.Key.{Key as AnyKey};
+ghost use Rattle.fx_data.specs.Regrouped.{joined};
+ghost use Rattle.fx_data.specs.Table.{AreLawful, IsLawfulTable};
+ghost use Rattle.fx_data.specs.declared.table.Table.{Table as AnyTable};
 
-use crate::key::Key;
+use crate::key::key_order;
 use crate::order::are_rising;
+use crate::runs::with_table;
 use crate::table::Table;
 use crate::tables::Tables;
 use fx_base::{List, Memory};
 use fx_value::Row;
 use std::alloc::Global;
-use std::collections::BTreeMap;
+
+/// The tables in the order of their keys; those with one key keep their order. Tables that rise in
+/// parts, as those of several streams do, are merged part by part.
+fn in_order(tables: List<Table>) -> Result<Vec<Table>, Memory>
+    ensures groups { IfOk result (λ v. grouped v.items ≡ grouped tables) }
+    ensures order { IfOk result (λ v. Ascend v.items) }
+    ensures lawful { AllByRecursion IsLawfulTable tables → IfOk result (λ v. AllByRecursion IsLawfulTable v.items) }
+{
+    let mut tables = tables.into_vec();
+    tables.sort_by(|a, b| key_order(&a.key, &b.key))?;
+    Ok(tables)
+}
 
 fn joined(earlier: List<Row>, later: List<Row>) -> Result<List<Row>, Memory>
     ensures { IfOk result (λ rows. rows ≡ earlier ++ later) }
@@ -25,49 +37,41 @@ fn joined(earlier: List<Row>, later: List<Row>) -> Result<List<Row>, Memory>
     Ok(List::of(rows))
 }
 
-/// Puts the rows of the table behind those that stand under its key.
-fn add(groups: &mut BTreeMap<Key, List<Row>>, table: Table) -> Result<(), Memory>
-    ensures { OnOk result ((k : AnyKey) → get key_cmp groups.new k ≡ (if eq_by_cmp key_cmp k table.key then Some (unwrap_or (get key_cmp groups.old k) [] ++ table.rows) else get key_cmp groups.old k)) }
+/// Puts a table behind others whose keys are not above its key. Where the last has its key, its rows
+/// go behind those of the last.
+fn with_next(mut tables: Vec<Table>, table: Table) -> Result<Vec<Table>, Memory>
+    requires { (front : AnyList AnyTable) (last : AnyTable) → tables.items ≡ front ++ last ∷ [] → is_lt (key_cmp table.key last.key) ≡ false }
+    ensures groups { IfOk result (λ v. grouped v.items ≡ joined (grouped tables.items) table) }
+    ensures rising { Rise tables.items → IfOk result (λ v. Rise v.items) }
+    ensures last { IfOk result (λ v. LastHas table.key v.items) }
+    ensures lawful { AllByRecursion IsLawfulTable tables.items → IsLawfulTable table → IfOk result (λ v. AllByRecursion IsLawfulTable v.items) }
 {
-    let Table { key, rows } = table;
-    let rows = match groups.remove(&key) {
-        None => rows,
-        Some(earlier) => joined(earlier, rows)?,
-    };
-    groups.insert(key, rows)?;
-    Ok(())
-}
-
-fn listed(alloc: Global, groups: BTreeMap<Key, List<Row>>) -> Result<List<Table>, Memory>
-    ensures tables { IfOk result (λ ts. ts ≡ map table_of groups.entries) }
-    ensures ordered { IfOk result (λ _. IsOrdered key_cmp groups) }
-{
-    let mut tables = Vec::with_capacity(alloc, groups.len())?;
-    for (key, rows) in groups {
-        tables.push(Table { key, rows })?;
+    match tables.pop() {
+        None => with_table(tables, table),
+        Some(last) => {
+            if key_order(&last.key, &table.key).is_eq() {
+                let Table { key, rows } = last;
+                let rows = joined(rows, table.rows)?;
+                return with_table(tables, Table { key, rows });
+            }
+            let tables = with_table(tables, last)?;
+            with_table(tables, table)
+        }
     }
-    Ok(List::of(tables))
 }
 
-/// For each key of a table the rows that stand under it.
-fn groups_of(alloc: Global, tables: List<Table>) -> Result<BTreeMap<Key, List<Row>>, Memory>
-    ensures { IfOk result (λ groups. (k : AnyKey) → get key_cmp groups k ≡ rows_under tables k) }
+/// The tables, where neighbours with one key become one.
+fn with_neighbours_joined(alloc: Global, tables: Vec<Table>) -> Result<List<Table>, Memory>
+    requires order { Ascend tables.items }
+    requires lawful { AllByRecursion IsLawfulTable tables.items }
+    ensures groups { IfOk result (λ ts. grouped ts ≡ grouped tables.items) }
+    ensures lawful { IfOk result AreLawful }
 {
-    let mut groups = BTreeMap::new(alloc);
-    for table in tables.into_vec() {
-        add(&mut groups, table)?;
+    let mut made = Vec::new(alloc);
+    for table in tables {
+        made = with_next(made, table)?;
     }
-    Ok(groups)
-}
-
-/// The tables by way of a tree of their keys.
-fn sorted(alloc: Global, tables: List<Table>) -> Result<Tables, Memory>
-    requires { AllByRecursion IsLawfulTable tables }
-    ensures { IfOk result (λ t. t ≡ gathered tables) }
-{
-    let groups = groups_of(alloc, tables)?;
-    let items = listed(alloc, groups)?;
-    Ok(Tables { items })
+    Ok(List::of(made))
 }
 
 /// The tables in the order of their keys. Tables with one key become one, whose rows are theirs, in
@@ -79,5 +83,7 @@ pub fn collect(alloc: Global, tables: List<Table>) -> Result<Tables, Memory>
     if are_rising(tables.as_slice()) {
         return Ok(Tables::of(tables));
     }
-    sorted(alloc, tables)
+    let ordered = in_order(tables)?;
+    let items = with_neighbours_joined(alloc, ordered)?;
+    Ok(Tables::of(items))
 }

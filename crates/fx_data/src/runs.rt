@@ -103,7 +103,7 @@ fn lone(alloc: Global, key: &Key, row: Row) -> Result<Table, Memory>
     Ok(Table { key, rows })
 }
 
-fn with_table(mut tables: Vec<Table>, table: Table) -> Result<Vec<Table>, Memory>
+pub(crate) fn with_table(mut tables: Vec<Table>, table: Table) -> Result<Vec<Table>, Memory>
     ensures { IfOk result (λ ts. ts.items ≡ tables.items ++ table ∷ []) }
 {
     tables.push(table)?;

@@ -1,7 +1,11 @@
 pub mod AgreeLaws
 pub mod Choices
 pub mod GroundSet
+pub mod Lists
+pub mod PartLaws
 pub mod PlainLaws
+pub mod RaiseLists
+pub mod RaisedLaws
 pub mod RowSums
 pub mod ShapeLaws
 pub mod SizeLaws

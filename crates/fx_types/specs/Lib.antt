@@ -4,6 +4,7 @@ pub mod Instance
 pub mod Kinds
 pub mod Nodes
 pub mod Numbers
+pub mod Raised
 pub mod Shape
 pub mod Size
 pub mod Term

@@ -3,6 +3,7 @@
 #![tactic(auto)]
 
 mod copy;
+mod raise;
 mod size;
 mod term;
 

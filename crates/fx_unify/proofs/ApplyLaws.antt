@@ -22,7 +22,8 @@ use Rattle.fx_types.specs.Shape.{OfField, OfLabel, term, field_term, rest_term, 
 use Rattle.fx_unify.specs.Part.{p_is, value}
 use Rattle.fx_unify.specs.Rows.{ground_row, SameLabels, SameFields}
 use Rattle.fx_unify.proofs.HeadLaws.{ground_array, ground_fun, ground_rec, ground_stream, pipe_part, result_part, labels_part}
-use Rattle.fx_unify.proofs.RowLaws.{ground_row_is, take_all}
+use Rattle.fx_types.proofs.Lists.{take_all}
+use Rattle.fx_unify.proofs.RowLaws.{ground_row_is}
 use Rattle.fx_unify.proofs.SolvingLaws.{type_is}
 
 none_after : {A : Type 0} (xs : List A) → xs ++ [] ≡ xs

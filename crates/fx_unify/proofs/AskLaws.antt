@@ -21,7 +21,7 @@ use Rattle.fx_unify.specs.Judge.{AreTypes, Judging}
 use Rattle.fx_unify.specs.Part.{Variable, type_node, field_node, slot_node, p_is, part, Solved}
 use Rattle.fx_unify.specs.Plainest.{IsPlainest}
 use Rattle.fx_unify.specs.Smaller.{IsSmaller}
-use Rattle.fx_unify.specs.Solutions.{Meets, Solves, IsUnrestricted}
+use Rattle.fx_unify.specs.Solutions.{Meets, Solves, HasLeast, IsUnrestricted}
 use Rattle.fx_unify.specs.Sorts.{allows}
 use Rattle.fx_unify.specs.Store.{entry, slot_in, rest_in}
 use Rattle.fx_unify.specs.Work.{Hold, Holds, Within, Told, Refuses, Solving, nothing_more}
@@ -32,7 +32,7 @@ use Rattle.fx_unify.proofs.StoreLaws.{none_some}
 
 -- there is a least solution
 abbrev Least : stores.Store → List bounds.Bound → List Ty → Type 0
-Least st bs ts = (s : Solution) × Meets s st bs ts × Within s × IsPlainest st bs s × ((q : Solution) → Meets q st bs ts → IsSmaller s q)
+Least st bs ts = (s : Solution) × Meets s st bs ts × Within s × IsPlainest st bs s × ((q : Solution) → Meets q st bs ts → IsSmaller s q) × (st.work.items ≡ [])
 
 -- nothing is asked
 
@@ -55,6 +55,7 @@ module _ (st : stores.Store) (bs : List bounds.Bound) (ts : List Ty) (types : st
     (λ n. (tt, omega arith), λ n. (tt, tt), λ n. ((g_absent, refl, ([], λ l h. refl)), λ l. (tt, tt))),
     (λ n free. inl refl, λ n free. refl, λ r l free. refl),
     λ q meets. less_smaller plainest q (λ n. int_less (q.type_of n), λ n. tt, λ r l. tt),
+    work,
   )
 
   pub nothing_below : IsBelow 0 st bs ts
@@ -72,7 +73,7 @@ module _ (old new : stores.Store) (bs : List bounds.Bound) (ts : List Ty) where
     settled s = (λ h. (((run s).0 h.0).0, h.1, h.2), λ h. ((run s).1 (h.0, tt), h.1, h.2))
 
     pub has_least : new.work.items ≡ [] → Judging {A = Unit {0}} (Ok tt) new bs ts → Least new bs ts
-    has_least none h = (h.0, ((h.1, subst (Hold h.0) (sym none) tt), h.2, h.3), h.4, h.5, λ q meets. h.6 q meets.0.0 meets.1)
+    has_least none h = (h.0, ((h.1, subst (Hold h.0) (sym none) tt), h.2, h.3), h.4, h.5, λ q meets. h.6 q meets.0.0 meets.1, none)
 
     pub judged_clash : (f : UnifyFault) → Judging {A = Unit {0}} (Err f) new bs ts → Told f ((s : Solution) → Meets s old bs ts → Within s → ⊥)
     judged_clash fault.Clash h = λ s meets within. (let now : Meets s new bs ts = (settled s).1 meets in h s now.0.0 now.1 now.2 within)
@@ -206,3 +207,8 @@ types_below n s q agree (t ∷ ts) below h = (subst IsType (agree_term n s q agr
 
 pub unrestricted : (b : declared.Bindings) → IsUnrestricted b
 unrestricted b s q agree h = (b.below.0 s q agree h.0, keeps_below b.next s q agree b.bounds.items b.below.1 h.1, types_below b.next s q agree b.also.items b.below.2 h.2)
+
+-- where there is a least solution, the bounds don't refuse all
+pub not_refused : (b : declared.Bindings) (bs : List bounds.Bound) (f : UnifyFault) → bs ≡ b.bounds.items → f ≡ fault.Clash → Told f ((s : Solution) → Solved s (entry b.store) → Keeps s bs → ⊥) → HasLeast b → ⊥
+not_refused b bs f same is told least =
+    subst (λ g. Told g ((s : Solution) → Solved s (entry b.store) → Keeps s bs → ⊥)) is told least.0 least.1.0.0 (subst (Keeps least.0) (sym same) least.1.1)

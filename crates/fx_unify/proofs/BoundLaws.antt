@@ -26,7 +26,7 @@ use Rattle.fx_unify.specs.Work.{Told}
 use Rattle.fx_unify.proofs.Cases.{Form, is_bool, is_int, is_text, is_time, is_span, is_pattern, is_done, is_variable, is_array, is_fun, is_rec, is_stream, form_of}
 use Rattle.fx_unify.proofs.DecideLaws.{no_item}
 use Rattle.fx_unify.proofs.LeastLaws.{free_type}
-use Rattle.fx_unify.proofs.RowLaws.{take_all}
+use Rattle.fx_types.proofs.Lists.{take_all}
 use Rattle.fx_unify.proofs.SolvingLaws.{type_is}
 use Rattle.fx_types.proofs.Choices.{by_cases}
 
@@ -240,3 +240,6 @@ pub all_narrowed : (st : stores.Store) (ks : List sorts.Sorts) (bs : List bounds
 all_narrowed st ks bs i le h =
     let all : Prefix st ks bs = subst (Prefix st ks) (take_all bs i le) h in
     (all.0, λ k solved. least_keeps st ks bs k all.2 solved all.1, all.2, all.3)
+
+pub all_bounds_met : (st : stores.Store) (ks : List sorts.Sorts) (bs : List bounds.Bound) (i : ℕ) → length bs ≤ i → Prefix st ks (take i bs) → AllMet st ks bs
+all_bounds_met st ks bs i le h = let all : Prefix st ks bs = subst (Prefix st ks) (take_all bs i le) h in all.1

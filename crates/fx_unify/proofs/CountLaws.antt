@@ -31,7 +31,8 @@ use Rattle.fx_unify.proofs.Cases.{Form, is_bool, is_int, is_text, is_time, is_sp
 use Rattle.fx_unify.proofs.HeadLaws.{ground_array, ground_fun, ground_rec, ground_stream}
 use Rattle.fx_unify.proofs.LeastLaws.{free_type, led}
 use Rattle.fx_unify.proofs.MeasureLaws.{more_weight, more_taken, one_node, restated_measure, measured_array, array_over, measured_record, record_over, measured_stream, stream_over, measured_taken, taken_over, taken_no_room}
-use Rattle.fx_unify.proofs.RowLaws.{ground_row_is, take_all}
+use Rattle.fx_types.proofs.Lists.{take_all}
+use Rattle.fx_unify.proofs.RowLaws.{ground_row_is}
 use Rattle.fx_unify.proofs.SumLaws.{sum_skip, sum_add, sum_over}
 use Rattle.fx_types.proofs.Choices.{chosen, passed, never, by_cases}
 use Rattle.fx_types.proofs.RowSums.{same_is, same_itself}

@@ -27,9 +27,11 @@ use Rattle.fx_unify.specs.Store.{entry, bound_to, root_at, slot_in, rest_in, slo
 use Rattle.fx_unify.specs.Work.{IsField, IsRow, Within}
 use Rattle.fx_unify.proofs.CountLaws.{plainest_formed, plainest_one}
 use Rattle.fx_unify.proofs.LeastLaws.{bound_step, bound_measured, free_type, free_field, free_slot}
-use Rattle.fx_unify.proofs.MeasureLaws.{more_piped, more_nodes}
+use Rattle.fx_types.proofs.PartLaws.{more_nodes}
+use Rattle.fx_unify.proofs.MeasureLaws.{more_piped}
 use Rattle.fx_unify.proofs.CompareLaws.{free_rest}
-use Rattle.fx_unify.proofs.RowLaws.{value_of, take_all}
+use Rattle.fx_types.proofs.Lists.{take_all}
+use Rattle.fx_unify.proofs.RowLaws.{value_of}
 use Rattle.fx_unify.proofs.StoreLaws.{off_kept}
 use Rattle.fx_types.proofs.Choices.{passed, never, by_cases}
 use Rattle.fx_types.proofs.PlainLaws.{plain_formed, plain_weighs, weighs_plain}

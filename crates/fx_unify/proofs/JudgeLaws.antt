@@ -21,7 +21,7 @@ use Rattle.fx_unify.specs.Work.{Within, Told, IsField}
 use Rattle.fx_unify.proofs.DecideLaws.{fixed_more, fixed_of}
 use Rattle.fx_unify.proofs.LessLaws.{least_smallest}
 use Rattle.fx_unify.proofs.PlainestLaws.{least_plainest}
-use Rattle.fx_unify.proofs.RowLaws.{take_all}
+use Rattle.fx_types.proofs.Lists.{take_all}
 
 -- terms that are types
 

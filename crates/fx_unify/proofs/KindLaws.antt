@@ -8,7 +8,7 @@ use Rattle.fx_types.specs.Ground.{Ground, g_bool, g_int, g_text, g_time, g_span,
 use Rattle.fx_unify.specs.declared.sorts.Sorts as sorts
 use Rattle.fx_types.specs.Kinds.{of_kind, IsAmong}
 use Rattle.fx_unify.specs.Sorts.{allows}
-use Rattle.fx_unify.proofs.RowLaws.{take_all}
+use Rattle.fx_types.proofs.Lists.{take_all}
 use Rattle.fx_types.proofs.Choices.{by_cases}
 
 -- one kind more: the type of that kind, or as before

@@ -18,7 +18,8 @@ use Rattle.fx_unify.specs.Smaller.{Less, LessField, LessSolution, IsSmaller}
 use Rattle.fx_unify.specs.Sorts.{plainest_of, set_at, allows}
 use Rattle.fx_unify.specs.Store.{entry}
 use Rattle.fx_unify.proofs.CountLaws.{plainest_one}
-use Rattle.fx_unify.proofs.MeasureLaws.{more_nodes, some_node}
+use Rattle.fx_types.proofs.PartLaws.{more_nodes}
+use Rattle.fx_unify.proofs.MeasureLaws.{some_node}
 use Rattle.fx_unify.proofs.WeighLaws.{allows_column}
 use Rattle.fx_types.proofs.Choices.{by_cases}
 

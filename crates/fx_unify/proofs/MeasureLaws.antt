@@ -12,21 +12,9 @@ use Rattle.fx_unify.specs.Sums.{Summed, Summing}
 use Rattle.fx_unify.proofs.SolvingLaws.{type_is}
 use Rattle.fx_unify.proofs.SumLaws.{no_weight}
 use Rattle.fx_types.proofs.Choices.{chosen, passed, by_cases}
+use Rattle.fx_types.proofs.PartLaws.{more_nodes}
 use Rattle.fx_types.proofs.PlainLaws.{plain_formed, plain_weighs, weighs_plain}
 use Rattle.fx_unify.proofs.LabelLaws.{fresh_label}
-
-pub more_nodes : (t : Ground) (a b : ℕ) → AtMost t a → a ≤ b → AtMost t b
-more_nodes (g_array t) a b h le = (h.0, h.1, omega (arith, h.2))
-more_nodes (g_fun r p t) a b h le = (h.0, h.1, h.2, h.3, h.4, h.5, λ ls d. (let few : total h.0 ls + h.1 + h.2 + 1 ≤ a = h.6 ls d in omega arith))
-more_nodes (g_rec r) a b h le = (h.0, h.1, λ ls d. (let few : total h.0 ls + 1 ≤ a = h.2 ls d in omega arith))
-more_nodes (g_stream r) a b h le = (h.0, h.1, λ ls d. (let few : total h.0 ls + 1 ≤ a = h.2 ls d in omega arith))
-more_nodes g_bool a b h le = omega arith
-more_nodes g_int a b h le = omega arith
-more_nodes g_text a b h le = omega arith
-more_nodes g_time a b h le = omega arith
-more_nodes g_span a b h le = omega arith
-more_nodes g_pattern a b h le = omega arith
-more_nodes g_done a b h le = omega arith
 
 pub some_node : (t : Ground) (n : ℕ) → AtMost t n → 1 ≤ n
 some_node (g_array t) n h = omega (arith, h.2)

@@ -26,7 +26,8 @@ use Rattle.fx_unify.specs.Store.{entry, root_at, rest_of, AreKept, KeepsRoot, Is
 use Rattle.fx_unify.specs.Sums.{Summed, Summing, row_names, row_rest}
 use Rattle.fx_unify.proofs.LeastLaws.{free_slot}
 use Rattle.fx_unify.proofs.MeasureLaws.{more_weight, restated_measure}
-use Rattle.fx_unify.proofs.RowLaws.{value_of, off_row, take_all}
+use Rattle.fx_types.proofs.Lists.{take_all}
+use Rattle.fx_unify.proofs.RowLaws.{value_of, off_row}
 use Rattle.fx_unify.proofs.StoreLaws.{off_kept}
 use Rattle.fx_unify.proofs.SumLaws.{sum_skip, sum_add, sum_over, row_whole, row_refused, row_over}
 use Rattle.fx_types.proofs.Choices.{chosen, passed, by_cases, neither}

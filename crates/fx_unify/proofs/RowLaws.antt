@@ -131,12 +131,6 @@ other_fields s (d ∷ es) zero e f q x l at label first apart =
 other_fields s (d ∷ es) (suc i) e f q x l at label first apart =
     rw (entry_is d) (ap (λ y. if same_text l d.label then ground_field s (field_term d.field) else y) (other_fields s es i e f q x l at label first.1 apart))
 
-pub take_all : {A : Type 0} (xs : List A) (n : ℕ) → length xs ≤ n → take n xs ≡ xs
-take_all [] zero h = refl
-take_all [] (suc n) h = refl
-take_all (x ∷ xs) zero h = absurd (omega arith)
-take_all (x ∷ xs) (suc n) h = ap (λ ys. x ∷ ys) (take_all xs n (omega arith))
-
 -- the labels of a function as a row
 
 pub label_moved : (fs gs : List LabelField) (es : List LabelTy) (e : LabelTy) (l : Label) (t : Ty)

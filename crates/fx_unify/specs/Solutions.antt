@@ -1,5 +1,5 @@
 -- The ground solutions of bindings: which types, fields and rows the variables may stand for.
-use Rattle.std.specs.Prelude.{ℕ, List}
+use Rattle.std.specs.Prelude.{◌≡◌, ℕ, List, []}
 use Rattle.fx_types.specs.declared.term.Ty as types
 use Rattle.fx_types.specs.Agree.{Agree}
 use Rattle.fx_types.specs.Instance.{Solution}
@@ -19,10 +19,10 @@ Meets s st bs ts = Holds s st × Keeps s bs × AreTypes s ts
 abbrev pub Solves : Solution → declared.Bindings → Type 0
 Solves s b = Meets s b.store b.bounds.items b.also.items
 
--- the least solution: it is within the limit, each variable that nothing is bound to stands for what
--- is plainest, and no term is smaller under another solution
+-- no equation is left to solve, and there is a least solution: it is within the limit, each variable
+-- that nothing is bound to stands for what is plainest, and no term is smaller under another solution
 abbrev pub HasLeast : declared.Bindings → Type 0
-HasLeast b = (s : Solution) × Solves s b × Within s × IsPlainest b.store b.bounds.items s × ((q : Solution) → Solves q b → IsSmaller s q)
+HasLeast b = (s : Solution) × Solves s b × Within s × IsPlainest b.store b.bounds.items s × ((q : Solution) → Solves q b → IsSmaller s q) × (b.store.work.items ≡ [])
 
 -- more than each number that is used
 abbrev pub next_of : declared.Bindings → ℕ

@@ -2,7 +2,7 @@
 
 ghost use Rattle.std.specs.Prelude.{IfOk};
 ghost use Rattle.fx_types.specs.Instance.{Solution};
-ghost use Rattle.fx_unify.specs.Bounds.{Keeps, Narrowed, NarrowingBy, NarrowingAt};
+ghost use Rattle.fx_unify.specs.Bounds.{Keeps, Narrowed, AllMet, NarrowingBy, NarrowingAt};
 ghost use Rattle.fx_unify.specs.Part.{Solved};
 ghost use Rattle.fx_unify.specs.Store.{entry};
 ghost use Rattle.fx_unify.specs.Work.{Refuses};
@@ -18,6 +18,7 @@ impl Store {
     /// What the bounds leave to the type variables that are free.
     pub(crate) fn sorts_of(&self, alloc: Global, bounds: &[Bound]) -> Result<Vec<Sorts>, UnifyFault>
         ensures ok { IfOk result (λ v. Narrowed self.now v.items bounds.now) }
+        ensures met { IfOk result (λ v. AllMet self.now v.items bounds.now) }
         ensures clash { Refuses result ((s : Solution) → Solved s (entry self.now) → Keeps s bounds.now → ⊥) }
     {
         let mut sorts = Vec::new(alloc);

@@ -14,7 +14,7 @@ use fx_base::{Memory, Text};
 use fx_types::{LabelField, LabelTy};
 
 /// Whether one of the entries has this label.
-pub(crate) fn has_label(entries: &[LabelField], label: &Text) -> bool
+pub fn has_label(entries: &[LabelField], label: &Text) -> bool
     ensures { result ≡ listed label.now (names entries.now) }
 {
     for entry in entries {
@@ -50,7 +50,7 @@ pub(crate) fn has_text(labels: &[Text], label: &Text) -> bool
 }
 
 /// Adds the label where it isn't there.
-pub(crate) fn add_label(labels: &mut Vec<Text>, label: &Text) -> Result<(), Memory>
+pub fn add_label(labels: &mut Vec<Text>, label: &Text) -> Result<(), Memory>
     ensures there { OnOk result (listed label.now labels.new.items ≡ true) }
     ensures grows { OnOk result (Grows labels.old.items labels.new.items) }
 {

@@ -11,7 +11,7 @@ ghost use Rattle.fx_unify.specs.Solutions.{Solves, next_of};
 use crate::bindings::Bindings;
 use crate::bound::Bound;
 use crate::field::Field;
-use crate::numbers::numbers;
+use crate::variables::numbers;
 use crate::work::put_off;
 use fx_base::{List, Memory};
 use fx_types::Ty;
@@ -20,7 +20,7 @@ use std::alloc::Global;
 
 impl Bindings {
     /// Bindings under which the two types are equal.
-    pub(crate) fn later(self, alloc: Global, a: &Ty, b: &Ty) -> Result<Bindings, Memory>
+    pub fn later(self, alloc: Global, a: &Ty, b: &Ty) -> Result<Bindings, Memory>
         ensures ok { IfOk result (λ r. (s : Solution) → Solves s r ↔ (Solves s self × (ground s (term a.now) ≡ ground s (term b.now)))) }
         ensures next { IfOk result (λ r. next_of r ≡ max (next_of self) (max (Numbers.numbers (term a.now)) (Numbers.numbers (term b.now)))) }
     {
@@ -45,12 +45,7 @@ impl Bindings {
 
     /// Bindings under which the type variable is one of the kinds, or a duration where `span` is
     /// true.
-    pub(crate) fn bound_later(
-        self,
-        var: u32,
-        kinds: &List<Kind>,
-        span: bool,
-    ) -> Result<Bindings, Memory>
+    pub fn bound_later(self, var: u32, kinds: &List<Kind>, span: bool) -> Result<Bindings, Memory>
         ensures ok { IfOk result (λ r. (s : Solution) → Solves s r ↔ (Solves s self × IsAmong kinds.now span (s.type_of var))) }
         ensures next { IfOk result (λ r. next_of r ≡ max (next_of self) (var + 1)) }
     {
@@ -72,7 +67,7 @@ impl Bindings {
     }
 
     /// Bindings under which the term is a type.
-    pub(crate) fn fits_later(self, alloc: Global, ty: &Ty) -> Result<Bindings, Memory>
+    pub fn fits_later(self, alloc: Global, ty: &Ty) -> Result<Bindings, Memory>
         ensures ok { IfOk result (λ r. (s : Solution) → Solves s r ↔ (Solves s self × IsType (ground s (term ty.now)))) }
         ensures next { IfOk result (λ r. next_of r ≡ max (next_of self) (Numbers.numbers (term ty.now))) }
     {

@@ -16,7 +16,7 @@ use std::alloc::Global;
 
 impl Bindings {
     /// Solves the equations that are left, and sees that a solution is.
-    pub(crate) fn settle(self, alloc: Global) -> Result<Bindings, UnifyFault>
+    pub fn settle(self, alloc: Global) -> Result<Bindings, UnifyFault>
         ensures ok { IfOk result (λ r. (s : Solution) → Solves s r ↔ Solves s self) }
         ensures least { IfOk result HasLeast }
         ensures next { IfOk result (λ r. next_of r ≡ next_of self) }

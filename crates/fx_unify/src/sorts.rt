@@ -12,14 +12,14 @@ use fx_value::Kind;
 
 /// Which types a type variable may have.
 #[derive(Clone, Copy, Debug)]
-pub(crate) struct Sorts {
-    pub(crate) boolean: bool,
-    pub(crate) integer: bool,
-    pub(crate) text: bool,
-    pub(crate) time: bool,
-    pub(crate) span: bool,
+pub struct Sorts {
+    pub boolean: bool,
+    pub integer: bool,
+    pub text: bool,
+    pub time: bool,
+    pub span: bool,
     /// All that are no scalars.
-    pub(crate) other: bool,
+    pub other: bool,
 }
 
 impl Sorts {
@@ -120,7 +120,7 @@ const EVERY: Sorts = Sorts {
 };
 
 /// What the variable of this number may have.
-pub(crate) fn sorts_at(sorts: &[Sorts], number: u32) -> Sorts
+pub fn sorts_at(sorts: &[Sorts], number: u32) -> Sorts
     ensures { result ≡ set_at sorts.now number }
 {
     let at = number as usize;

@@ -14,7 +14,7 @@ pub(crate) struct Slot {
 
 /// What a row variable has at all other labels.
 #[derive(Debug, Drop)]
-pub(crate) enum Root {
+pub enum Root {
     Default(FieldTy),
     Var(u32),
 }

@@ -21,7 +21,7 @@ const FUEL: u64 = u64::MAX;
 
 /// A field of a row, lent.
 #[derive(Clone, Copy)]
-pub(crate) enum View<'a> {
+pub enum View<'a> {
     Absent,
     Is(&'a Ty),
     Var(u32),
@@ -56,8 +56,8 @@ impl<'a> View<'a> {
     }
 }
 
-/// What a term has.
-pub(crate) fn view_of(field: &FieldTy) -> View
+/// What the field of a row has, by the row's term.
+pub fn view_of(field: &FieldTy) -> View
     ensures { part_seen result ≡ part_of (field_term field.now) }
 {
     match field {

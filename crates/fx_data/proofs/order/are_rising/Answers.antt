@@ -1,6 +1,7 @@
 use Rattle.std.proofs.Common.{◌≡◌, ◌-◌, drop, subst, arith, rules}
 use Rattle.std.specs.Prelude.{IsTrue}
-use Rattle.fx_data.proofs.Rise.{Rise, rise_short, rise_back}
+use Rattle.fx_data.specs.Ascending.{Rise}
+use Rattle.fx_data.proofs.Rise.{rise_short, rise_back}
 use Rattle.fx_data.proofs.order.are_rising.Goals as goal
 
 pub loop-i-preserved : goal.loop-i-preserved

@@ -1,5 +1,5 @@
 use Rattle.std.proofs.Common.{◌≡◌, ℕ, ◌+◌, drop}
-use Rattle.fx_data.proofs.Rise.{Rise}
+use Rattle.fx_data.specs.Ascending.{Rise}
 use Rattle.fx_data.proofs.order.are_rising.Given as goal
 
 abbrev pub invariant-loop-i : goal.invariant-loop-i

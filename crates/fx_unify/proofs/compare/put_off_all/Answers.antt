@@ -3,7 +3,8 @@ use Rattle.fx_types.specs.Ground.{listed}
 use Rattle.fx_types.specs.Shape.{row_term}
 use Rattle.fx_unify.specs.Rows.{ground_row, ground_entries, SameAt}
 use Rattle.fx_unify.specs.Work.{Hold}
-use Rattle.fx_unify.proofs.RowLaws.{label_step, left_over, once, take_all}
+use Rattle.fx_types.proofs.Lists.{take_all}
+use Rattle.fx_unify.proofs.RowLaws.{label_step, left_over, once}
 use Rattle.fx_unify.proofs.compare.put_off_all.Goals as goal
 
 pub loop-label-preserved : goal.loop-label-preserved

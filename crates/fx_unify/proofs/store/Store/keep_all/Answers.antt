@@ -1,7 +1,7 @@
 use Rattle.std.proofs.Common.{subst}
 use Rattle.fx_unify.specs.Store.{KeptAt}
 use Rattle.fx_unify.proofs.CompareLaws.{kept_step}
-use Rattle.fx_unify.proofs.RowLaws.{take_all}
+use Rattle.fx_types.proofs.Lists.{take_all}
 use Rattle.fx_unify.proofs.store.Store.keep_all.Goals as goal
 
 pub loop-label-preserved : goal.loop-label-preserved

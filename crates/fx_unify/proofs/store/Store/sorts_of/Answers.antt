@@ -1,4 +1,4 @@
-use Rattle.fx_unify.proofs.BoundLaws.{start_at, one_narrowed, one_refused, all_narrowed}
+use Rattle.fx_unify.proofs.BoundLaws.{start_at, one_narrowed, one_refused, all_narrowed, all_bounds_met}
 use Rattle.fx_unify.proofs.store.Store.sorts_of.Goals as goal
 
 pub loop-bound-init : goal.loop-bound-init
@@ -14,3 +14,6 @@ loop-bound-preserved c =
 
 pub returns-clause-ok : goal.returns-clause-ok
 returns-clause-ok c = all_narrowed c.args.self.now c.loop-bound.sorts.items c.args.bounds.now c.loop-bound.bound-index c.loop-bound-test.false c.loop-bound.invariant
+
+pub returns-clause-met : goal.returns-clause-met
+returns-clause-met c = all_bounds_met c.args.self.now c.loop-bound.sorts.items c.args.bounds.now c.loop-bound.bound-index c.loop-bound-test.false c.loop-bound.invariant

@@ -1,0 +1,4 @@
+pub mod Named
+pub mod Open
+pub mod Solved
+pub mod Used
