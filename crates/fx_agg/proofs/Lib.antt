@@ -1,0 +1,6 @@
+pub mod Choices
+pub mod Gathers
+pub mod Made
+pub mod Reduced
+pub mod Tallies
+pub mod Values

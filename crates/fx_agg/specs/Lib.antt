@@ -1,0 +1,7 @@
+pub mod Aggregate
+pub mod Chosen
+pub mod Distinct
+pub mod Numbers
+pub mod OneRow
+pub mod Reduce
+pub mod Tally
