@@ -1,5 +1,6 @@
 //! Types of built-ins, and terms made equal.
 use fx_base::{Boxed, List, Memory, Text};
+use fx_generalize::Solved;
 use fx_schemes::{BuiltinType, Form, LabelWords, builtin, form_of, scheme_at};
 use fx_types::{FieldTy, LabelField, Rest, RowTy, Ty};
 use fx_unify::{Bindings, UnifyFault, unify};
@@ -48,6 +49,24 @@ fn terms_are_made_equal(rt: HostRuntime) -> Result<(), Fail> {
     assert_eq!(rt; put_in.copy(alloc)?.size(), 1);
     let inside = Ty::Array(Boxed::new(alloc, Ty::Var(9))?);
     assert!(rt; made_equal(alloc, bindings, &Ty::Var(9), &inside)?.is_none());
+    Ok(())
+}
+
+#[test]
+fn a_type_is_kept_and_used(rt: HostRuntime) -> Result<(), Fail> {
+    let alloc = rt.alloc();
+    let list = Ty::Array(Boxed::new(alloc, Ty::Var(7))?);
+    let bindings = Bindings::empty(alloc)?;
+    let bindings = bindings.fits_later(alloc, &list)?.settle(alloc)?;
+    let kept = Solved::of(alloc, &bindings, &list)?;
+    assert_eq!(rt; kept.also.as_slice().len(), 1);
+    assert_eq!(rt; kept.bounds.as_slice().len(), 0);
+    assert_eq!(rt; kept.vars, 1);
+    let first = bindings.unused(1).expect(&rt, "there are numbers");
+    let using = kept.used(alloc, bindings, first)?;
+    let bindings = using.bindings.later(alloc, &using.ty, &list)?;
+    let bindings = bindings.settle(alloc)?;
+    assert_eq!(rt; bindings.unused(1), Some(9));
     Ok(())
 }
 
