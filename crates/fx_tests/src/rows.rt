@@ -1,6 +1,8 @@
 //! Rows, their changes, and their way into tables.
+use fx_agg::distinct;
 use fx_base::{List, Memory, Text};
 use fx_data::{Key, KeyedRow, Tables, regroup};
+use fx_group::{group_by, group_except, union};
 use fx_value::{Change, Row, Scalar, change_rows};
 use std::alloc::Global;
 use std::test::Fail;
@@ -61,5 +63,21 @@ fn rows_of_one_key_make_one_table(rt: HostRuntime) -> Result<(), Fail> {
         copy.at(0).map(|table| table.rows.as_slice().len()),
         Some(2)
     );
+    Ok(())
+}
+
+#[test]
+fn tables_are_grouped_united_and_told_apart(rt: HostRuntime) -> Result<(), Fail> {
+    let alloc = rt.alloc();
+    let label = Text::of(alloc, "n")?;
+    let columns = List::of(vec![in alloc; label.copy()?]?);
+    let tables = regrouped(alloc, numbered(alloc, 1)?, numbered(alloc, 2)?)?;
+    assert_eq!(rt; distinct(alloc, tables.copy(alloc)?, &label)?.len(), 1);
+    let apart = group_by(alloc, tables.copy(alloc)?, &columns)?;
+    assert_eq!(rt; apart.len(), 2);
+    let together = group_except(alloc, tables, &columns)?;
+    assert_eq!(rt; together.len(), 1);
+    let streams = List::of(vec![in alloc; apart, together]?);
+    assert_eq!(rt; union(alloc, streams)?.len(), 3);
     Ok(())
 }
