@@ -3,4 +3,5 @@ pub mod Gathers
 pub mod Made
 pub mod Reduced
 pub mod Tallies
+pub mod Unstuck
 pub mod Values

@@ -1,5 +1,5 @@
 -- Row functions that take no ticks, and what operators ask of them and of rows.
-use Rattle.std.proofs.Common.{◌≡◌, ◌≢◌, ℕ, ℤ, Bool, true, false, List, [], ◌∷◌, map, refl, sym, subst}
+use Rattle.std.proofs.Common.{◌≡◌, ◌≢◌, ℤ, Bool, true, false, List, [], ◌∷◌, map, refl, sym, subst}
 use Rattle.std.specs.Prelude.{Option, None, Some, ◌&&◌, codes}
 use Rattle.std.specs.FinMap.{FinMap, get}
 use Rattle.std.specs.List.{AllByRecursion, list_all}
@@ -17,11 +17,11 @@ use Rattle.fx_bench.specs.Timed.{may_be_time, is_timed, has_timed_rows}
 abbrev Row : Type 0
 Row = FinMap text_cmp Scalar
 
-first_true : (a b : Bool) → (a && b) ≡ true → a ≡ true
+pub first_true : (a b : Bool) → (a && b) ≡ true → a ≡ true
 first_true true b is = refl
 first_true false b is = is
 
-second_true : (a b : Bool) → (a && b) ≡ true → b ≡ true
+pub second_true : (a b : Bool) → (a && b) ≡ true → b ≡ true
 second_true true b is = is
 second_true false b is = cc
 

@@ -83,3 +83,38 @@ impl RowFun for SetLabel {
         self.call_one(alloc, first, meter, patterns)
     }
 }
+
+/// Gives the first row.
+pub struct FirstRow;
+
+impl RowFun for FirstRow {
+    ghost use Rattle.std.specs.Prelude.{[]};
+    ghost use Rattle.fx_bench.specs.FirstRow.{made_of_first, first_limited};
+
+    ghost numbers = { λ f. [] };
+
+    ghost means = { λ f says rows limit. made_of_first (λ row. row) rows };
+
+    ghost limited = { λ f says rows. first_limited (λ row. row) rows };
+
+    fn call_one<P: Patterns>(
+        &self,
+        _alloc: Global,
+        row: &Row,
+        _meter: &mut Meter,
+        _patterns: &mut P,
+    ) -> Result<Answer, Halt> {
+        Ok(Answer::Line(row.copy()?))
+    }
+
+    fn call_two<P: Patterns>(
+        &self,
+        _alloc: Global,
+        first: &Row,
+        _second: &Row,
+        _meter: &mut Meter,
+        _patterns: &mut P,
+    ) -> Result<Answer, Halt> {
+        Ok(Answer::Line(first.copy()?))
+    }
+}

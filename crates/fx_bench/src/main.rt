@@ -22,7 +22,7 @@ fn main(rt: HostRuntime) -> ExitCode {
     }
     if !known {
         let _ = println!(&rt;
-            "fx_bench WORD ..; words: make, range, filter, map, map-new, group, group-time, except, union"
+            "fx_bench WORD ..; words: make, range, filter, map, map-new, group, group-time, except, union, count, sum, min, last, distinct, distinct-all, reduce"
         );
     }
     ExitCode::from(0)

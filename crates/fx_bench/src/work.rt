@@ -2,10 +2,12 @@ ghost use Rattle.std.specs.Prelude.{◌≡◌, codes};
 ghost use Rattle.std.specs.FinMap.{get};
 ghost use Rattle.std.specs.List.{list_all};
 ghost use Rattle.fx_bench.specs.Timed.{may_be_time, is_timed, has_timed_rows};
+ghost use Rattle.fx_bench.specs.Counted.{is_counted, has_counted_rows};
 
-use crate::funs::{AllRows, SetLabel};
+use crate::funs::{AllRows, FirstRow, SetLabel};
 use crate::rows::{made_tables, one_label};
-use fx_base::{Halt, List, Memory, MemoryPatterns, Meter, Text};
+use fx_agg::{Agg, aggregate, distinct, reduce};
+use fx_base::{Halt, List, Memory, MemoryPatterns, Meter, Place, Text};
 use fx_data::{Table, Tables};
 use fx_group::{filter, group_by, group_except, map, range, union};
 use fx_value::{Row, Scalar};
@@ -21,6 +23,12 @@ pub enum Work {
     GroupBy(&'static str),
     GroupExcept,
     Union,
+    Count,
+    Sum,
+    Min,
+    Last,
+    Distinct(&'static str),
+    Reduce,
 }
 
 pub fn work_of(word: &str) -> Option<Work> {
@@ -34,6 +42,13 @@ pub fn work_of(word: &str) -> Option<Work> {
         "group-time" => Some(Work::GroupBy("_time")),
         "except" => Some(Work::GroupExcept),
         "union" => Some(Work::Union),
+        "count" => Some(Work::Count),
+        "sum" => Some(Work::Sum),
+        "min" => Some(Work::Min),
+        "last" => Some(Work::Last),
+        "distinct" => Some(Work::Distinct("host")),
+        "distinct-all" => Some(Work::Distinct("_value")),
+        "reduce" => Some(Work::Reduce),
         _ => None,
     }
 }
@@ -71,6 +86,12 @@ impl Work {
             Work::Map(label) => mapped(alloc, tables, label),
             Work::GroupBy(label) => Ok(group_by(alloc, tables, &one_label(alloc, label)?)?),
             Work::GroupExcept => Ok(group_except(alloc, tables, &one_label(alloc, "_value")?)?),
+            Work::Count => counted(alloc, tables),
+            Work::Sum => summed(alloc, tables),
+            Work::Min => least(alloc, tables),
+            Work::Last => last(alloc, tables),
+            Work::Distinct(label) => Ok(distinct(alloc, tables, &Text::of(alloc, label)?)?),
+            Work::Reduce => reduced(alloc, tables),
             Work::Make | Work::Union => Ok(tables),
         }
     }
@@ -125,4 +146,70 @@ fn mapped(alloc: Global, tables: Tables, label: &str) -> Result<Tables, Halt> {
         value: 7,
     };
     map(alloc, tables, &fun, &mut meter, &mut patterns)
+}
+
+fn is_counted(label: &Text, row: &Row) -> bool
+    ensures { result ≡ is_counted label.now row.now }
+{
+    match row.get(label) {
+        None | Some(Scalar::Null | Scalar::Int(_)) => true,
+        Some(Scalar::Bool(_) | Scalar::Time(_) | Scalar::Text(_)) => false,
+    }
+}
+
+fn has_counted_rows(label: &Text, table: &Table) -> bool
+    ensures { result ≡ has_counted_rows label.now table.now }
+{
+    table
+        .rows
+        .as_slice()
+        .iter()
+        .all(|row| is_counted(label, row))
+}
+
+fn have_counted_rows(label: &Text, tables: &[Table]) -> bool
+    ensures { result ≡ list_all (has_counted_rows label.now) tables.now }
+{
+    tables.iter().all(|table| has_counted_rows(label, table))
+}
+
+/// The sums, where each row has an integer; the test is a part of what is measured.
+fn summed(alloc: Global, tables: Tables) -> Result<Tables, Halt> {
+    let column = Text::of(alloc, "_value")?;
+    if have_counted_rows(&column, tables.as_slice()) {
+        return aggregate(alloc, tables, Agg::Sum, &column, Place { at: 0 });
+    }
+    Ok(tables)
+}
+
+fn counted(alloc: Global, tables: Tables) -> Result<Tables, Halt> {
+    let column = Text::of(alloc, "_value")?;
+    aggregate(alloc, tables, Agg::Count, &column, Place { at: 0 })
+}
+
+fn least(alloc: Global, tables: Tables) -> Result<Tables, Halt> {
+    let column = Text::of(alloc, "_value")?;
+    aggregate(alloc, tables, Agg::Min, &column, Place { at: 0 })
+}
+
+fn last(alloc: Global, tables: Tables) -> Result<Tables, Halt> {
+    let column = Text::of(alloc, "_value")?;
+    aggregate(alloc, tables, Agg::Last, &column, Place { at: 0 })
+}
+
+fn reduced(alloc: Global, tables: Tables) -> Result<Tables, Halt> {
+    let mut meter = Meter {
+        budget: 0,
+        spent: 0,
+    };
+    let mut patterns = MemoryPatterns::none(alloc, List::empty(alloc));
+    let identity = Row::empty(alloc)?;
+    reduce(
+        alloc,
+        tables,
+        &identity,
+        &FirstRow,
+        &mut meter,
+        &mut patterns,
+    )
 }

@@ -1,4 +1,4 @@
-use Rattle.std.proofs.Common.{◌≡◌, ◌≢◌, ℕ, List, true}
+use Rattle.std.proofs.Common.{◌≢◌, ℕ, List, true}
 use Rattle.fx_group.specs.Answer.{Row, tested}
 use Rattle.fx_group.proofs.Unstuck.{every_row, filter_never_stuck}
 use Rattle.fx_value.specs.declared.answer.Answer.TheVariants.{Cell}

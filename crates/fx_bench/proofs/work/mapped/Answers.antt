@@ -1,4 +1,4 @@
-use Rattle.std.proofs.Common.{◌≡◌, ◌≢◌, ℕ, pos, List}
+use Rattle.std.proofs.Common.{◌≢◌, ℕ, pos, List}
 use Rattle.std.specs.FinMap.{insert}
 use Rattle.fx_group.specs.Answer.{Row, turned}
 use Rattle.fx_group.proofs.Unstuck.{every_row, map_never_stuck}

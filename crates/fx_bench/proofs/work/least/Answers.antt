@@ -1,0 +1,8 @@
+use Rattle.fx_group.proofs.Unstuck.{every_row}
+use Rattle.fx_agg.specs.declared.agg.Agg.TheVariants.{Min}
+use Rattle.fx_agg.proofs.Unstuck.{Asks, aggregate_never_stuck}
+use Rattle.fx_bench.proofs.work.least.Goals as goal
+
+pub aggregate-requires : goal.aggregate-requires
+aggregate-requires c =
+    aggregate_never_stuck _ c.in_ok-column.column Min c.args.tables (every_row (Asks Min c.in_ok-column.column) (λ row. tt) c.args.tables)
