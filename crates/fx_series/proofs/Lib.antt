@@ -1,3 +1,8 @@
+pub mod ReadBlocks
+pub mod Looked
+pub mod BlockPlaces
+pub mod InBlock
+pub mod Rising
 pub mod Between
 pub mod ByTime
 pub mod Entries
