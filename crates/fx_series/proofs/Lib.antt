@@ -3,7 +3,6 @@ pub mod Looked
 pub mod BlockPlaces
 pub mod InBlock
 pub mod Rising
-pub mod Between
 pub mod ByTime
 pub mod Entries
 pub mod Grouped
