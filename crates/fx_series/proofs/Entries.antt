@@ -25,7 +25,7 @@ module _ (key : StoredKey) where
 
   -- a new series goes to the end
   pub put_last : (es : List (StoredKey × Held)) (held : Held) (time : ℤ) (value : Scalar) → lookup (same_key key) es ≡ None
-      → Some held.kind ≡ kind_of value → held.values.entries ≡ (time, value) ∷ []
+      → Some held.kind ≡ kind_of value → held.values ≡ (time, value) ∷ []
       → map shown (insert_last same_key es key held) ≡ after_put (id_of_key key (kind_of value)) time value (map shown es)
   put_last [] held time value none kind values = λ i. record { id = id_of_key key (kind i); values = values i } ∷ []
   put_last (e ∷ es) held time value none kind values =
@@ -38,7 +38,7 @@ module _ (key : StoredKey) where
 
   -- a series that is there takes the value in its place
   pub put_at : (es : List (StoredKey × Held)) (i : ℕ) (k : StoredKey) (old new : Held) (time : ℤ) (value : Scalar) → slice_get es i ≡ Some (k, old) → same_key key k ≡ true
-      → ((j : ℕ) → j < i → same_key key (get_or (keys_of es) j key) ≡ false) → kind_of value ≡ Some old.kind → new.kind ≡ old.kind → new.values.entries ≡ insert_entry int_cmp old.values.entries time value
+      → ((j : ℕ) → j < i → same_key key (get_or (keys_of es) j key) ≡ false) → kind_of value ≡ Some old.kind → new.kind ≡ old.kind → new.values ≡ insert_entry int_cmp old.values time value
       → map shown (set_value_at es i new) ≡ after_put (id_of_key key (kind_of value)) time value (map shown es)
   put_at [] i k old new time value at same before fits kind values = cc
   put_at (e ∷ es) zero k old new time value at same before fits kind values =
@@ -47,7 +47,7 @@ module _ (key : StoredKey) where
       let kinds : same_kind (kind_of value) (Some e.1.kind) ≡ true = (kind_decides (kind_of value) (Some e.1.kind)).1 (fits ∙ sym (ap (λ x. Some x.1.kind) is)) in
       let here : (same_key key e.0 && same_kind (kind_of value) (Some e.1.kind)) ≡ true = and_from _ _ named kinds in
       let held : Some new.kind ≡ Some e.1.kind = ap Some (kind ∙ sym (ap (λ x. x.1.kind) is)) in
-      let entries : new.values.entries ≡ insert_entry int_cmp e.1.values.entries time value = values ∙ sym (ap (λ x. insert_entry int_cmp x.1.values.entries time value) is) in
+      let entries : new.values ≡ insert_entry int_cmp e.1.values time value = values ∙ sym (ap (λ x. insert_entry int_cmp x.1.values time value) is) in
       (λ i. record { id = id_of_key e.0 (held i); values = entries i } ∷ map shown es) ∙ sym (cond-true (same_key key e.0 && same_kind (kind_of value) (Some e.1.kind)) _ _ here)
   put_at (e ∷ es) (suc i) k old new time value at same before fits kind values =
       let other : same_key key e.0 ≡ false = before 0 (omega arith) in

@@ -1,4 +1,8 @@
-pub mod Between
+pub mod ReadBlocks
+pub mod Looked
+pub mod BlockPlaces
+pub mod InBlock
+pub mod Rising
 pub mod ByTime
 pub mod Entries
 pub mod Grouped

@@ -37,7 +37,7 @@ module _ (es : List (StoredKey × Held)) (key : StoredKey) (number : ℕ) (store
   found = sym stands.value ∙ slice_get-map (λ e. e.1) es number ∙ ap (option_map (λ e. e.1)) stands.at
 
   pub put_ok : (time : ℤ) (kind : Kind) (value : Scalar) (result : Result (Unit {0}) PutFault) → kind_of value ≡ Some kind → HeldAnswers number old.kind kind result
-      → new.kind ≡ old.kind → OnOk result (new.values.entries ≡ insert_entry int_cmp old.values.entries time value)
+      → new.kind ≡ old.kind → OnOk result (new.values ≡ insert_entry int_cmp old.values time value)
       → OnOk result (map shown (set_value_at es number new) ≡ after_put (id_of_key key (kind_of value)) time value (map shown es))
   put_ok time kind value (Ok u) is answer same values =
       let p = position-Some (same_key key) (keys_of es) number key (sym stands.place) in
@@ -62,17 +62,17 @@ module _ (es : List (StoredKey × Held)) (key : StoredKey) (number : ℕ) (store
 
 -- a series that shows as before leaves the map as it was
 same_shown : (es : List (StoredKey × Held)) (number : ℕ) (stored : StoredKey) (old new : Held) → slice_get es number ≡ Some (stored, old)
-    → new.kind ≡ old.kind → new.values.entries ≡ old.values.entries → map shown (set_value_at es number new) ≡ map shown es
+    → new.kind ≡ old.kind → new.values ≡ old.values → map shown (set_value_at es number new) ≡ map shown es
 same_shown [] number stored old new at kind values = cc
 same_shown (e ∷ es) zero stored old new at kind values =
     let is : e.1 ≡ old = cc in
     let held : Some new.kind ≡ Some e.1.kind = ap Some (kind ∙ sym (ap (λ h. h.kind) is)) in
-    let entries : new.values.entries ≡ e.1.values.entries = values ∙ sym (ap (λ h. h.values.entries) is) in
+    let entries : new.values ≡ e.1.values = values ∙ sym (ap (λ h. h.values) is) in
     λ i. record { id = id_of_key e.0 (held i); values = entries i } ∷ map shown es
 same_shown (e ∷ es) (suc number) stored old new at kind values = ap (λ l. shown e ∷ l) (same_shown es number stored old new at kind values)
 
 pub put_err : (es : List (StoredKey × Held)) (number : ℕ) (stored : StoredKey) (old new : Held) → slice_get es number ≡ Some (stored, old)
-    → (result : Result (Unit {0}) PutFault) → new.kind ≡ old.kind → OnErr result (new.values.entries ≡ old.values.entries) → OnErr result (map shown (set_value_at es number new) ≡ map shown es)
+    → (result : Result (Unit {0}) PutFault) → new.kind ≡ old.kind → OnErr result (new.values ≡ old.values) → OnErr result (map shown (set_value_at es number new) ≡ map shown es)
 put_err es number stored old new at (Ok u) kind values = tt
 put_err es number stored old new at (Err e) kind values = same_shown es number stored old new at kind values
 

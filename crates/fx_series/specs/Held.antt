@@ -17,7 +17,7 @@ id_of_key k kind = record { bucket = k.bucket; key = k.key; kind = kind }
 
 -- a held series
 abbrev pub shown : StoredKey × Held → Series
-shown e = record { id = id_of_key e.0 (Some e.1.kind); values = e.1.values.entries }
+shown e = record { id = id_of_key e.0 (Some e.1.kind); values = e.1.values }
 
 -- a series with one value
 abbrev pub new_series : SeriesId → ℤ → Scalar → Series

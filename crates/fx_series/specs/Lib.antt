@@ -1,3 +1,4 @@
+pub mod Blocks
 pub mod Held
 pub mod HeldAnswers
 pub mod Laws

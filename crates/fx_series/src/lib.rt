@@ -1,6 +1,8 @@
 //! The store: buckets, and their series of points by time, in memory.
 #![tactic(auto)]
 
+mod block;
+mod blocks;
 mod fault;
 mod laws;
 mod series;

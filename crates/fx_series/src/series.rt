@@ -4,13 +4,12 @@ ghost use Rattle.std.specs.BTreeMap.{insert_entry};
 ghost use Rattle.fx_series.specs.HeldAnswers.{HeldAnswers};
 ghost use Rattle.fx_series.specs.Read.{between, pairs};
 
+use crate::blocks::Blocks;
 use crate::fault::PutFault;
 use fx_base::{List, Memory, Steps, Text};
 use fx_line::SeriesKey;
 use fx_value::{Kind, Scalar};
 use std::alloc::Global;
-use std::collections::BTreeMap;
-use std::collections::btree_map::Range;
 use std::sync::ledger::Ledger;
 
 /// A value and its time, which counts nanoseconds since 1970-01-01T00:00:00Z.
@@ -28,20 +27,19 @@ pub(crate) struct StoredKey {
 }
 
 /// The values of a series by rising time, and their kind.
-#[derive(Debug, Drop)]
+#[derive(Drop)]
 pub(crate) struct Held {
     pub(crate) kind: Kind,
-    pub(crate) values: BTreeMap<i64, Scalar>,
+    pub(crate) values: Blocks,
 }
 
 impl Held {
     /// A series with its first value.
     pub(crate) fn of(alloc: Global, kind: Kind, time: i64, value: Scalar) -> Result<Held, Memory>
         ensures kind { IfOk result (λ h. h.kind ≡ kind) }
-        ensures values { IfOk result (λ h. h.values.entries ≡ (time, value) ∷ []) }
+        ensures values { IfOk result (λ h. h.values ≡ (time, value) ∷ []) }
     {
-        let mut values = BTreeMap::new(alloc);
-        values.insert(time, value)?;
+        let values = Blocks::of(alloc, time, value)?;
         Ok(Held { kind, values })
     }
 
@@ -55,8 +53,8 @@ impl Held {
         value: Scalar,
     ) -> Result<(), PutFault>
         ensures kind { self.new.kind ≡ self.old.kind }
-        ensures ok { OnOk result (self.new.values.entries ≡ insert_entry int_cmp self.old.values.entries time value) }
-        ensures err { OnErr result (self.new.values.entries ≡ self.old.values.entries) }
+        ensures ok { OnOk result (self.new.values ≡ insert_entry int_cmp self.old.values time value) }
+        ensures err { OnErr result (self.new.values ≡ self.old.values) }
         ensures answers { HeldAnswers number self.old.kind kind result }
     {
         if self.kind != kind {
@@ -66,7 +64,7 @@ impl Held {
                 new: kind,
             });
         }
-        self.values.insert(time, value)?;
+        self.values.put(time, value)?;
         Ok(())
     }
 
@@ -78,34 +76,11 @@ impl Held {
         last: i64,
         steps: &mut Steps<L>,
     ) -> Result<List<TimeValue>, Memory>
-        ensures values { IfOk result (λ r. pairs r ≡ between first last self.now.values.entries) }
-        ensures steps { IfOk result (λ r. steps.new ≡ steps.old + length r) }
-        ensures most { OnErr result ((steps.old ≤ steps.new) × (steps.new ≤ steps.old + length (between first last self.now.values.entries))) }
+        ensures values { IfOk result (λ r. pairs r ≡ between first last self.now.values) }
+        ensures enough { IfOk result (λ r. steps.old + length r ≤ steps.new) }
+        ensures few { IfOk result (λ r. steps.new ≤ steps.old + length r + 2048) }
+        ensures most { OnErr result ((steps.old ≤ steps.new) × (steps.new ≤ steps.old + length (between first last self.now.values) + 2048)) }
     {
-        if first > last {
-            return Ok(List::empty(alloc));
-        }
-        copied(alloc, self.values.range(first..=last), steps)
+        self.values.read(alloc, first, last, steps)
     }
-}
-
-// The entries with their values copied, a step for each.
-fn copied<L: Ledger>(
-    alloc: Global,
-    entries: Range<'_, i64, Scalar>,
-    steps: &mut Steps<L>,
-) -> Result<List<TimeValue>, Memory>
-    ensures values { IfOk result (λ r. pairs r ≡ entries.entry) }
-    ensures steps { IfOk result (λ r. steps.new ≡ steps.old + length r) }
-    ensures most { OnErr result ((steps.old ≤ steps.new) × (steps.new ≤ steps.old + length entries.entry)) }
-{
-    let mut values = List::empty(alloc);
-    for (time, value) in entries {
-        steps.tick();
-        values.push(TimeValue {
-            time: *time,
-            value: value.copy()?,
-        })?;
-    }
-    Ok(values)
 }

@@ -110,8 +110,9 @@ impl SeriesMap {
     ) -> Result<List<TimeValue>, Memory>
         requires { number < length self.now }
         ensures values { (s : Series) → slice_get self.now number ≡ Some s → IfOk result (λ r. pairs r ≡ between first last s.values) }
-        ensures steps { IfOk result (λ r. steps.new ≡ steps.old + length r) }
-        ensures most { (s : Series) → slice_get self.now number ≡ Some s → OnErr result ((steps.old ≤ steps.new) × (steps.new ≤ steps.old + length (between first last s.values))) }
+        ensures enough { IfOk result (λ r. steps.old + length r ≤ steps.new) }
+        ensures few { IfOk result (λ r. steps.new ≤ steps.old + length r + 2048) }
+        ensures most { (s : Series) → slice_get self.now number ≡ Some s → OnErr result ((steps.old ≤ steps.new) × (steps.new ≤ steps.old + length (between first last s.values) + 2048)) }
     {
         let (_, held) = self.entries.get_index(number as usize).unwrap();
         held.read(alloc, first, last, steps)

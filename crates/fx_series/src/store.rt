@@ -133,8 +133,9 @@ impl Store {
     ) -> Result<List<TimeValue>, Memory>
         requires { series < length self.now.series }
         ensures values { (s : Series) → slice_get self.now.series series ≡ Some s → IfOk result (λ r. pairs r ≡ between first last s.values) }
-        ensures steps { IfOk result (λ r. steps.new ≡ steps.old + length r) }
-        ensures most { (s : Series) → slice_get self.now.series series ≡ Some s → OnErr result ((steps.old ≤ steps.new) × (steps.new ≤ steps.old + length (between first last s.values))) }
+        ensures enough { IfOk result (λ r. steps.old + length r ≤ steps.new) }
+        ensures few { IfOk result (λ r. steps.new ≤ steps.old + length r + 2048) }
+        ensures most { (s : Series) → slice_get self.now.series series ≡ Some s → OnErr result ((steps.old ≤ steps.new) × (steps.new ≤ steps.old + length (between first last s.values) + 2048)) }
     {
         self.series.read(alloc, series, first, last, steps)
     }

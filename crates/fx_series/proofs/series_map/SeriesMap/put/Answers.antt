@@ -16,7 +16,7 @@ returns-in-Some-clause-ok c =
     let stands : Stands c.self.inside.entries.entries c.args.key c.in-Some.number c.pair_mut-held.result.0.now c.pair_mut-held.result.1.now =
     record { at = held.value; place = c.in-Some.ensures.index; value = c.in-Some.ensures.value } in
     let time : to_z w64 (of_z w64 c.args.time) ≡ c.args.time = to_z-of_z w64 c.args.time c.ranges.time in
-    let values = subst (λ t. OnOk c.put.result (c.put.new.self.values.entries ≡ insert_entry int_cmp c.pair_mut-held.result.1.now.values.entries t c.args.value)) time c.put.ensures.ok in
+    let values = subst (λ t. OnOk c.put.result (c.put.new.self.values ≡ insert_entry int_cmp c.pair_mut-held.result.1.now.values t c.args.value)) time c.put.ensures.ok in
     let new = map shown (set_value_at c.self.inside.entries.entries c.in-Some.number c.put.new.self) in
     subst (λ l. OnOk c.put.result (new ≡ after_put (id_of_key c.args.key (kind_of c.args.value)) c.args.time c.args.value l)) c.self.view_is
     (put_ok _ _ _ _ _ c.put.new.self stands c.args.time c.unwrap-kind.result c.args.value c.put.result (sym c.kind.ensures ∙ c.unwrap-kind.ensures) c.put.ensures.answers c.put.ensures.kind values)

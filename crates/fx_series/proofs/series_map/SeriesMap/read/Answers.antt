@@ -26,4 +26,4 @@ returns-clause-most g c = λ s at.
     let series = shown_at c.self.inside.entries.entries c.args.number (c.unwrap.result.0.now, c.unwrap.result.1.now) s (sym entry) (ap (λ l. slice_get l c.args.number) c.self.view_is ∙ at) in
     let first = to_z-of_z w64 c.args.first c.ranges.first in
     let last = to_z-of_z w64 c.args.last c.ranges.last in
-    subst (λ l. OnErr c.read.result ((c.args.steps.now ≤ c.read.new.steps) × (c.read.new.steps ≤ c.args.steps.now + length l))) (part s first last (ap (λ t. t.values) series)) c.read.ensures.most
+    subst (λ l. OnErr c.read.result ((c.args.steps.now ≤ c.read.new.steps) × (c.read.new.steps ≤ c.args.steps.now + length l + 2048))) (part s first last (ap (λ t. t.values) series)) c.read.ensures.most
