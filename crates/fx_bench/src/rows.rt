@@ -6,7 +6,8 @@ use fx_data::{Key, Runs, Tables, key_with};
 use fx_value::{Head, Row, Scalar, Shape, Source};
 use std::alloc::Global;
 
-/// Tables that differ in the column `host`, with rows of seven columns.
+/// Tables that differ in the column `host`, with rows of seven columns. Nothing is promised of them:
+/// they are there to be measured, and no proof rests on what they hold.
 pub fn made_tables(alloc: Global, tables: u64, rows: i64) -> Result<Tables, Memory> {
     let key = key_of(alloc, &["_field", "_measurement", "host", "region", "zone"])?;
     let mut runs = Runs::empty(alloc);
@@ -66,7 +67,7 @@ fn host_of(alloc: Global, number: u64) -> Result<Text, Memory> {
     }
 }
 
-/// A list of one label.
+/// A list of one label; as with all that is only measured, nothing is promised.
 pub fn one_label(alloc: Global, name: &str) -> Result<List<Text>, Memory> {
     let mut labels = List::empty(alloc);
     labels.push(Text::of(alloc, name)?)?;

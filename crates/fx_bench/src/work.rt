@@ -31,6 +31,8 @@ pub enum Work {
     Reduce,
 }
 
+/// The work of this name, or None where there is none. Nothing rests on which word is which, so no
+/// clause repeats the table.
 pub fn work_of(word: &str) -> Option<Work> {
     match word {
         "make" => Some(Work::Make),
@@ -55,7 +57,7 @@ pub fn work_of(word: &str) -> Option<Work> {
 
 impl Work {
     /// What the work takes: a million rows in 1,000 tables, or as many in eleven streams of so many
-    /// tables each.
+    /// tables each. Nothing is promised of rows that are only measured.
     pub fn streams(self, alloc: Global) -> Result<List<Tables>, Memory> {
         let mut streams = List::empty(alloc);
         match self {
@@ -69,6 +71,8 @@ impl Work {
         Ok(streams)
     }
 
+    /// What the operator makes of them. What it is stands in the operator's own contract; here only
+    /// its time is of use, so nothing is promised.
     pub fn run(self, alloc: Global, streams: List<Tables>) -> Result<Tables, Halt> {
         if let Work::Union = self {
             return Ok(union(alloc, streams)?);
