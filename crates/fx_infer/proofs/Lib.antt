@@ -1,0 +1,4 @@
+pub mod CallLaws
+pub mod ScriptLaws
+pub mod TypingLaws
+pub mod Worked

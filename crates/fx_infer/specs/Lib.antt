@@ -1,0 +1,9 @@
+pub mod Arguments
+pub mod Ask
+pub mod Environment
+pub mod Native
+pub mod Operators
+pub mod Parameters
+pub mod Script
+pub mod Typing
+pub mod Words

@@ -1,0 +1,2 @@
+//! Inference: which statements of a script have types.
+#![tactic(auto)]
