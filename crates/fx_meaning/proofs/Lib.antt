@@ -1,0 +1,4 @@
+pub mod BuiltLaws
+pub mod EndLaws
+pub mod Kept
+pub mod MeaningLaws
