@@ -35,6 +35,11 @@ better keeps None later = later
 better keeps (Some a) None = Some a
 better keeps (Some a) (Some b) = Some (if keeps a.0 b.0 then a else b)
 
+-- whether there is a row that is chosen before a later one with the value
+abbrev pub is_kept : (Scalar → Scalar → Bool) → Option Candidate → Scalar → Bool
+is_kept keeps None value = false
+is_kept keeps (Some a) value = keeps a.0 value
+
 abbrev pub best : (Scalar → Scalar → Bool) → List ℕ → List Row → Option Candidate
 best keeps column [] = None
 best keeps column (row ∷ rows) = better keeps (candidate column row) (best keeps column rows)

@@ -1,6 +1,7 @@
 pub mod Aggregate
 pub mod Chosen
 pub mod Distinct
+pub mod Mould
 pub mod Numbers
 pub mod OneRow
 pub mod Reduce

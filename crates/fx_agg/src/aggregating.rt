@@ -14,7 +14,7 @@ ghost use Rattle.fx_agg.specs.OneRow.{valued, keyed};
 use crate::agg::Agg;
 use crate::choosing::chosen;
 use crate::numbers::{count, spread, sum};
-use crate::one_row::{aggregate_row, time_pinned};
+use crate::one_row::Mould;
 use fx_base::{Halt, List, Memory, Place, Text};
 use fx_data::{Key, Runs, Table, Tables};
 use fx_value::{Row, Scalar};
@@ -28,7 +28,7 @@ pub fn count_rows(table: &Table) -> u64
 }
 
 /// Puts an aggregate row behind the runs.
-pub(crate) fn push_valued(
+fn push_valued(
     alloc: Global,
     runs: Runs,
     key: &Key,
@@ -38,9 +38,8 @@ pub(crate) fn push_valued(
     requires { HasRisingLabels key.now }
     ensures { IfOk result (λ r. r ≡ with_rows runs (valued key.now column.now value ∷ [])) }
 {
-    let row = aggregate_row(alloc, key, column, value)?;
-    let key = time_pinned(alloc, key)?;
-    runs.push(alloc, &key, row)
+    let mould = Mould::of(alloc, key, column)?;
+    mould.push(alloc, runs, value)
 }
 
 /// Puts the one row of a value behind the runs, where there is a value.

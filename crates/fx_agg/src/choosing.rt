@@ -1,21 +1,9 @@
-ghost use Rattle.std.specs.Prelude.{◌≡◌, List as AnyList, map, option_to_list, IfOk};
-ghost use Rattle.fx_agg.specs.Chosen.{candidate, stays, better, best, chosen};
+ghost use Rattle.std.specs.Prelude.{◌≡◌, List as AnyList, map, option_to_list, IfOk, OnOk};
+ghost use Rattle.fx_agg.specs.Chosen.{candidate, is_kept, stays, better, best, chosen};
 
 use crate::agg::Agg;
 use fx_base::{List, Memory, Text};
 use fx_value::{Row, Scalar, scalar_order};
-
-/// The row behind its value, where that isn't null.
-fn candidate(column: &Text, row: Row) -> Result<Option<(Scalar, Row)>, Memory>
-    ensures { IfOk result (λ c. c ≡ candidate column.now row) }
-{
-    let value = match row.get(column) {
-        None => return Ok(None),
-        Some(Scalar::Null) => return Ok(None),
-        Some(value) => value.copy()?,
-    };
-    Ok(Some((value, row)))
-}
 
 /// Whether a row with the first value is chosen before a later one with the second.
 fn stays(which: Agg, earlier: &Scalar, later: &Scalar) -> bool
@@ -29,24 +17,37 @@ fn stays(which: Agg, earlier: &Scalar, later: &Scalar) -> bool
     }
 }
 
-fn better(
-    which: Agg,
-    best: Option<(Scalar, Row)>,
-    next: Option<(Scalar, Row)>,
-) -> Option<(Scalar, Row)>
-    ensures { result ≡ better (stays which) best next }
+/// Whether there is a best row so far that is chosen before a later one with this value.
+fn is_kept(which: Agg, best: &Option<(Scalar, Row)>, value: &Scalar) -> bool
+    ensures { result ≡ is_kept (stays which) best.now value.now }
 {
-    match (best, next) {
-        (None, next) => next,
-        (Some(best), None) => Some(best),
-        (Some(best), Some(next)) => {
-            if stays(which, &best.0, &next.0) {
-                Some(best)
-            } else {
-                Some(next)
-            }
-        }
+    match best {
+        None => false,
+        Some((earlier, _)) => stays(which, earlier, value),
     }
+}
+
+/// Puts the row, behind its value, in place of the best so far, where it is chosen before that. A row
+/// that isn't chosen costs no more than a look at its value.
+fn offer(
+    which: Agg,
+    column: &Text,
+    best: &mut Option<(Scalar, Row)>,
+    row: Row,
+) -> Result<(), Memory>
+    ensures { OnOk result (best.new ≡ better (stays which) best.old (candidate column.now row)) }
+{
+    let value = match row.get(column) {
+        None | Some(Scalar::Null) => return Ok(()),
+        Some(value) => {
+            if is_kept(which, best, value) {
+                return Ok(());
+            }
+            value.copy()?
+        }
+    };
+    *best = Some((value, row));
+    Ok(())
 }
 
 /// The row that is chosen, or None where each value is null.
@@ -55,11 +56,10 @@ pub(crate) fn chosen(which: Agg, column: &Text, rows: List<Row>) -> Result<Optio
 {
     let mut best = None;
     for row in rows.into_vec() {
-        let next = candidate(column, row)?;
-        best = better(which, best, next);
+        offer(which, column, &mut best, row)?;
     }
     match best {
         None => Ok(None),
-        Some((_, row)) => Ok(Some(row)),
+        Some((_value, row)) => Ok(Some(row)),
     }
 }

@@ -10,11 +10,11 @@ ghost use Rattle.fx_group.specs.Turned.{with_rows};
 ghost use Rattle.fx_value.specs.Scalar.{scalar_cmp};
 ghost use Rattle.fx_value.specs.declared.scalar.Scalar.{Scalar as AnyScalar};
 ghost use Rattle.fx_agg.specs.Distinct.{or_null, values, differing, distinct_rows, distinguished};
-ghost use Rattle.fx_agg.specs.OneRow.{valued};
+ghost use Rattle.fx_agg.specs.Mould.{from_mould};
 
-use crate::aggregating::push_valued;
+use crate::one_row::Mould;
 use fx_base::{List, Memory, Text};
-use fx_data::{Key, Runs, Table, Tables};
+use fx_data::{Runs, Table, Tables};
 use fx_value::{Row, Scalar};
 use std::alloc::Global;
 use std::collections::BTreeSet;
@@ -41,18 +41,17 @@ fn is_new(seen: &mut BTreeSet<Scalar>, value: &Scalar) -> Result<bool, Memory>
 fn push_if(
     alloc: Global,
     runs: Runs,
-    key: &Key,
-    column: &Text,
+    mould: &Mould,
     value: Scalar,
     new: bool,
 ) -> Result<Runs, Memory>
-    requires { HasRisingLabels key.now }
-    ensures { IfOk result (λ r. r ≡ with_rows runs (map (valued key.now column.now) (if new then value ∷ [] else []))) }
+    requires { HasRisingLabels mould.now.key }
+    ensures { IfOk result (λ r. r ≡ with_rows runs (map (from_mould mould.now) (if new then value ∷ [] else []))) }
 {
     if !new {
         return Ok(runs);
     }
-    push_valued(alloc, runs, key, column, value)
+    mould.push(alloc, runs, value)
 }
 
 /// Puts a row for each differing value of the rows behind the runs. `shown` is the name of the
@@ -69,11 +68,12 @@ fn push_differing(
     ensures { IfOk result (λ r. r ≡ with_rows runs (distinct_rows column.now table)) }
 {
     let Table { key, rows } = table;
+    let mould = Mould::of(alloc, &key, shown)?;
     let mut seen = BTreeSet::new(alloc);
     for row in rows.into_vec() {
         let value = value_at(column, row)?;
         let new = is_new(&mut seen, &value)?;
-        runs = push_if(alloc, runs, &key, shown, value, new)?;
+        runs = push_if(alloc, runs, &mould, value, new)?;
     }
     Ok(runs)
 }

@@ -1,9 +1,12 @@
-ghost use Rattle.std.specs.Prelude.{◌≡◌, IfOk};
-ghost use Rattle.fx_agg.specs.OneRow.{is_time, key_changes, aggregate_row, time_pinned};
+ghost use Rattle.std.specs.Prelude.{◌≡◌, [], ◌∷◌, IfOk};
+ghost use Rattle.fx_data.specs.Table.{HasRisingLabels};
+ghost use Rattle.fx_group.specs.Turned.{with_rows};
+ghost use Rattle.fx_agg.specs.Mould.{key_head, from_mould, IsMould};
+ghost use Rattle.fx_agg.specs.OneRow.{is_time, time_pinned};
 
 use fx_base::{List, Memory, Text};
-use fx_data::{Key, KeyEntry};
-use fx_value::{Change, Row, Scalar, change_rows};
+use fx_data::{Key, KeyEntry, Runs};
+use fx_value::{Head, Row, Scalar, Shape, Source};
 use std::alloc::Global;
 
 fn is_time(entry: &KeyEntry) -> bool
@@ -12,44 +15,48 @@ fn is_time(entry: &KeyEntry) -> bool
     entry.label.as_str() == "_time"
 }
 
-/// What sets the columns that come from the key, with room for one more.
-fn key_changes(alloc: Global, key: &Key) -> Result<Vec<Change>, Memory>
-    ensures { IfOk result (λ v. v.items ≡ key_changes key.now) }
-{
-    let entries = key.entries.as_slice();
-    let mut changes = Vec::with_capacity(alloc, entries.len() + 1)?;
-    for entry in entries {
-        if !entry.pinned && !is_time(entry) {
-            changes.push(Change::Set {
-                label: entry.label.copy()?,
-                value: entry.value.copy()?,
-            })?;
-        }
-    }
-    Ok(changes)
+/// What the aggregate rows of a table have alike, made once for all of them: their labels, with the
+/// values that come from the table's key, and the key under which they go.
+#[derive(Drop)]
+pub(crate) struct Mould {
+    shape: Shape,
+    key: Key,
 }
 
-/// The unpinned entries of the key but `_time`, and the column with the value.
-pub(crate) fn aggregate_row(
-    alloc: Global,
-    key: &Key,
-    column: &Text,
-    value: Scalar,
-) -> Result<Row, Memory>
-    ensures { IfOk result (λ row. row ≡ aggregate_row key.now column.now value) }
-{
-    let mut changes = key_changes(alloc, key)?;
-    changes.push(Change::Set {
-        label: column.copy()?,
-        value,
-    })?;
-    let mut rows = List::empty(alloc);
-    rows.push(Row::empty(alloc)?)?;
-    let made = change_rows(alloc, rows, changes.as_slice())?;
-    match made.into_vec().pop() {
-        Some(row) => Ok(row),
-        None => unreachable!(),
+impl Mould {
+    /// For the aggregate rows of a table with this key, whose value goes to the column.
+    pub(crate) fn of(alloc: Global, key: &Key, column: &Text) -> Result<Mould, Memory>
+        ensures { IfOk result (IsMould key.now column.now) }
+    {
+        let columns = key_head(alloc, key)?;
+        let head = columns.with(alloc, column, Source::First)?;
+        let shape = Shape::of(alloc, head)?;
+        let pinned = time_pinned(alloc, key)?;
+        Ok(Mould { shape, key: pinned })
     }
+
+    /// Puts the row of the value behind the runs. It takes no memory but for the row.
+    pub(crate) fn push(&self, alloc: Global, runs: Runs, value: Scalar) -> Result<Runs, Memory>
+        requires { HasRisingLabels self.now.key }
+        ensures { IfOk result (λ r. r ≡ with_rows runs (from_mould self.now value ∷ [])) }
+    {
+        let row = Row::of(&self.shape, value, Scalar::Null)?;
+        runs.push(alloc, &self.key, row)
+    }
+}
+
+/// The columns that come from the key.
+fn key_head(alloc: Global, key: &Key) -> Result<Head, Memory>
+    ensures { IfOk result (λ h. h ≡ key_head key.now) }
+{
+    let entries = key.entries.as_slice();
+    let mut head = Head::empty(alloc);
+    for entry in entries {
+        if !entry.pinned && !is_time(entry) {
+            head = head.with(alloc, &entry.label, Source::Fixed(entry.value.copy()?))?;
+        }
+    }
+    Ok(head)
 }
 
 /// The key with its label `_time` pinned.

@@ -1,8 +1,13 @@
-use Rattle.std.proofs.Common.{sym, subst}
-use Rattle.fx_data.specs.Table.{HasRisingLabels}
-use Rattle.fx_data.specs.declared.key.Key.{Key}
-use Rattle.fx_agg.proofs.Made.{time_pinned_rises}
+use Rattle.std.proofs.Common.{◌≡◌, [], ◌∷◌, subst}
+use Rattle.std.specs.Prelude.{IfOk}
+use Rattle.fx_data.specs.declared.keyed_row.KeyedRow.{KeyedRow}
+use Rattle.fx_group.specs.Turned.{with_rows}
+use Rattle.fx_agg.proofs.Moulds.{mould_rises}
 use Rattle.fx_agg.proofs.aggregating.push_valued.Goals as goal
 
 pub push-requires : goal.push-requires
-push-requires c = subst (λ (key : Key). HasRisingLabels key) (sym c.in_ok-key.ensures) (time_pinned_rises c.args.key.now c.requires)
+push-requires c = mould_rises c.args.key.now c.args.column.now c.in_ok-mould.mould c.requires c.in_ok-mould.ensures
+
+pub returns : goal.returns
+returns c =
+    subst (λ (row : KeyedRow). IfOk c.push.result (λ r. r ≡ with_rows c.args.runs (row ∷ []))) (c.in_ok-mould.ensures c.args.value) c.push.ensures

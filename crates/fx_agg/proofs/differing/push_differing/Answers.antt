@@ -11,6 +11,7 @@ use Rattle.fx_value.specs.declared.scalar.Scalar.{Scalar}
 use Rattle.fx_value.specs.Scalar.{scalar_cmp}
 use Rattle.fx_agg.specs.Distinct.{values, differing}
 use Rattle.fx_agg.specs.OneRow.{valued}
+use Rattle.fx_agg.proofs.Moulds.{mould_rises}
 use Rattle.fx_agg.proofs.Values.{unseen, unseen_all, unseen_next}
 use Rattle.fx_agg.proofs.differing.push_differing.Goals as goal
 
@@ -36,10 +37,13 @@ loop-row-preserved c =
     let after = contains scalar_cmp c.is_new.new.seen in
     let here : List Scalar = if new then value ∷ [] else [] in
     let rest = unseen after (differing (values column left)) in
-    ap (λ groups. with_rows groups (map each rest)) (c.in_ok-runs.ensures
+    ap (λ groups. with_rows groups (map each rest)) (c.in_ok-runs.ensures ∙ (λ i. with_rows runs (map (λ v. c.in_ok-mould.ensures v i) here))
     ∙ ap (λ (label : List ℕ). with_rows runs (map (valued c.args.table.key label) here)) c.requires.shown)
     ∙ sym (with_both runs (map each here) (map each rest)) ∙ ap (with_rows runs) (sym (map-append each here rest))
     ∙ ap (λ ws. with_rows runs (map each ws))
     (sym (unseen_next before after value (values column left) new c.in_ok-new.ensures.new c.in_ok-new.ensures.seen))
     ∙ ap (λ (v : Scalar). with_rows runs (map each (unseen before (differing (v ∷ values column left))))) c.in_ok-value.ensures
     ∙ ap (λ (rows : List Row). with_rows runs (map each (unseen before (differing (values column rows))))) (sym c.in-Some.ensures.steps.0) ∙ c.loop-row.invariant
+
+pub push_if-requires : goal.push_if-requires
+push_if-requires c = mould_rises c.args.table.key c.args.shown.now c.in_ok-mould.mould c.requires.rising c.in_ok-mould.ensures
