@@ -1,0 +1,10 @@
+pub mod Aggregated
+pub mod Clip
+pub mod Cut
+pub mod Lengths
+pub mod Numbers
+pub mod Plain
+pub mod Reaches
+pub mod Standing
+pub mod Uncut
+pub mod Window
