@@ -1,0 +1,9 @@
+pub mod Both
+pub mod Joins
+pub mod Lines
+pub mod Meet
+pub mod Pairs
+pub mod Parts
+pub mod Steady
+pub mod SteadyJoins
+pub mod Unstuck
