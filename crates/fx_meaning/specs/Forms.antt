@@ -1,15 +1,25 @@
 -- What values are to a rule: Stuck where a value doesn't have the form that the rule takes.
-use Rattle.std.specs.Prelude.{ℕ, zero, suc, Bool, false, List, [], ◌∷◌, Option, None, Some}
+use Rattle.std.specs.Prelude.{ℕ, Bool, false, List, [], ◌∷◌, Option, None, Some}
 use Rattle.fx_time.specs.declared.span.Span.{Span}
 use Rattle.fx_value.specs.Ends.{End, Stuck}
 use Rattle.fx_value.specs.declared.scalar.Scalar.{Scalar}
 use Rattle.fx_value.specs.declared.scalar.Scalar.TheVariants as scalar
 use Rattle.fx_meaning.specs.Ends.{◌>>=◌, pure, found}
-use Rattle.fx_meaning.specs.Value.{Label, Val, cell, span, array, rec, stream, Vals, no_vals, more_vals, Slots, look, Stream, Streams, no_streams, more_streams}
+use Rattle.fx_meaning.specs.Value.{Label, Val, cell, span, pattern, array, rec, stream, Vals, no_vals, more_vals, Slots, look, Stream, Streams, no_streams, more_streams}
 
 abbrev pub cell_in : Val → End Scalar
 cell_in (cell a) = pure a
 cell_in _ = Stuck
+
+-- what is made of a scalar, of a duration, and of any other value
+abbrev pub cell_or_span : {A : Type 0} → (Scalar → A) → (Span → A) → A → Val → A
+cell_or_span of_cell of_span other (cell a) = of_cell a
+cell_or_span of_cell of_span other (span d) = of_span d
+cell_or_span of_cell of_span other _ = other
+
+abbrev pub pattern_in : Val → End ℕ
+pattern_in (pattern number) = pure number
+pattern_in _ = Stuck
 
 abbrev pub items_in : Val → End Vals
 items_in (array vs) = pure vs
@@ -46,21 +56,13 @@ truth_in v = do
   a ← flag_in v
   pure (truth_of a)
 
--- the scalars of an array
-abbrev pub cells_in : Vals → End (List Scalar)
-cells_in no_vals = pure []
-cells_in (more_vals v vs) = do
-  a ← cell_in v
-  rest ← cells_in vs
-  pure (a ∷ rest)
-
--- the streams of an array
-abbrev pub streams_in : Vals → End Streams
-streams_in no_vals = pure no_streams
-streams_in (more_vals v vs) = do
-  call ← stream_in v
-  rest ← streams_in vs
-  pure (more_streams call rest)
+-- what is made of each item, in order; the first that ends without a value ends all
+abbrev pub each : {X Y : Type 0} → (X → End Y) → List X → End (List Y)
+each step [] = pure []
+each step (x ∷ xs) = do
+  y ← step x
+  ys ← each step xs
+  pure (y ∷ ys)
 
 -- the argument at a label
 abbrev pub argument : Label → Slots → End Val
@@ -72,28 +74,11 @@ cell_of x args = argument x args >>= cell_in
 abbrev pub items_of : Label → Slots → End Vals
 items_of x args = argument x args >>= items_in
 
--- the scalars at these labels
-abbrev pub cells_of : List Label → Slots → End (List Scalar)
-cells_of [] args = pure []
-cells_of (x ∷ xs) args = do
-  a ← cell_of x args
-  rest ← cells_of xs args
-  pure (a ∷ rest)
+-- the values of an array as an ordinary list, and streams from one
+abbrev pub val_list : Vals → List Val
+val_list no_vals = []
+val_list (more_vals v vs) = v ∷ val_list vs
 
--- the streams at these labels
-abbrev pub streams_of : List Label → Slots → End Streams
-streams_of [] args = pure no_streams
-streams_of (x ∷ xs) args = do
-  call ← argument x args >>= stream_in
-  rest ← streams_of xs args
-  pure (more_streams call rest)
-
--- the number of values, and the value at a place
-abbrev pub count : Vals → ℕ
-count no_vals = 0
-count (more_vals v vs) = suc (count vs)
-
-abbrev pub nth : Vals → ℕ → Option Val
-nth no_vals n = None
-nth (more_vals v vs) zero = Some v
-nth (more_vals v vs) (suc n) = nth vs n
+abbrev pub streams_from : List Stream → Streams
+streams_from [] = no_streams
+streams_from (c ∷ cs) = more_streams c (streams_from cs)

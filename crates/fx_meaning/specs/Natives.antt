@@ -1,5 +1,5 @@
 -- What calls of the language's own functions give.
-use Rattle.std.specs.Prelude.{ℕ, ◌&&◌, ◌++◌, not, Bool, true, false, List, [], ◌∷◌, map, Option, None, Some, Result, Ok, Err, ℤ, pos, codes, if◌then◌else◌}
+use Rattle.std.specs.Prelude.{ℕ, ◌&&◌, ◌++◌, not, Bool, true, false, List, [], ◌∷◌, length, Option, None, Some, Result, Ok, Err, ℤ, pos, codes, if◌then◌else◌}
 use Rattle.std.specs.List.{filter, list_all, list_any}
 use Rattle.std.specs.Ordering.{is_eq}
 use Rattle.fx_base.specs.Text.{same_text}
@@ -25,9 +25,9 @@ use Rattle.fx_meaning.specs.declared.native.Native.TheVariants as n
 use Rattle.fx_meaning.specs.declared.stream.StreamFn.{StreamFn}
 use Rattle.fx_meaning.specs.declared.stream.StreamFn.TheVariants as s
 use Rattle.fx_meaning.specs.Ends.{◌>>=◌, pure, answered, cell_at}
-use Rattle.fx_meaning.specs.Forms.{argument, cell_of, cells_in, cells_of, count, items_of, span_in, streams_in, streams_of}
+use Rattle.fx_meaning.specs.Forms.{argument, cell_in, cell_of, each, items_of, span_in, stream_in, streams_from, val_list}
 use Rattle.fx_meaning.specs.Native.{scalar_builtin}
-use Rattle.fx_meaning.specs.Value.{Label, Val, cell, array, stream, shown, Vals, no_vals, more_vals, Slots, look, push, keep, Stream, applied, Streams, no_streams, more_streams}
+use Rattle.fx_meaning.specs.Value.{Label, Val, cell, array, stream, shown, Vals, no_vals, more_vals, Slots, look, push, keep, Stream, applied}
 
 -- ---- functions on scalars, arrays and texts
 
@@ -88,6 +88,10 @@ is_label (Some y) x = same_text x y
 abbrev pub scalar_labels : ScalarFn → List Label
 scalar_labels g = filter (λ x. not (is_label (span_label g) x) && not (is_label (list_label g) x)) (required_of (scalar_builtin g))
 
+-- the scalars of an array
+abbrev pub cells_in : Vals → End (List Scalar)
+cells_in vs = each cell_in (val_list vs)
+
 abbrev pub further_cells : Option Label → Slots → End (List Scalar)
 further_cells None args = pure []
 further_cells (Some x) args = items_of x args >>= cells_in
@@ -104,7 +108,7 @@ scalar_answer place g scalars d = if takes_arguments g scalars then cell_at plac
 
 abbrev pub scalar_call : Place → ScalarFn → Slots → End Val
 scalar_call place g args = do
-  scalars ← cells_of (scalar_labels g) args
+  scalars ← each (λ x. cell_of x args) (scalar_labels g)
   texts ← further_cells (list_label g) args
   d ← span_of (span_label g) args
   scalar_answer place g (scalars ++ texts) d
@@ -124,9 +128,13 @@ input_labels s.JoinFull = codes "left" ∷ codes "right" ∷ []
 input_labels s.JoinTime = codes "left" ∷ codes "right" ∷ []
 input_labels _ = codes "tables" ∷ []
 
-abbrev pub inputs_of : StreamFn → Slots → End Streams
-inputs_of s.Union args = items_of (codes "tables") args >>= streams_in
-inputs_of g args = streams_of (input_labels g) args
+-- the stream that is the argument at a label
+abbrev pub stream_of : Label → Slots → End Stream
+stream_of x args = argument x args >>= stream_in
+
+abbrev pub inputs_of : StreamFn → Slots → End (List Stream)
+inputs_of s.Union args = items_of (codes "tables") args >>= (λ vs. each stream_in (val_list vs))
+inputs_of g args = each (λ x. stream_of x args) (input_labels g)
 
 -- the arguments that are no inputs, as the call gives them
 abbrev pub further_args : StreamFn → Slots → Slots
@@ -151,33 +159,51 @@ given_name (Some (cell a)) = pure a
 given_name (Some _) = Stuck
 
 -- `yield` shows its input, under `_result` where it gives no name
-abbrev pub yielded : Place → Streams → Slots → End Val
-yielded place (more_streams call rest) args = given_name (look (codes "name") args) >>= shown_as place call
-yielded place no_streams args = Stuck
+abbrev pub yielded : Place → Slots → End Val
+yielded place args = do
+  call ← stream_of (codes "tables") args
+  name ← given_name (look (codes "name") args)
+  shown_as place call name
 
-abbrev pub stream_made : StreamFn → Place → ℤ → Slots → Streams → End Val
-stream_made s.Yield place moment args inputs = yielded place inputs args
-stream_made g place moment args inputs = pure (stream (applied g place inputs (with_moment g moment (further_args g args))))
+abbrev pub stream_made : Place → ℤ → StreamFn → Slots → End Val
+stream_made place moment g args = do
+  inputs ← inputs_of g args
+  pure (stream (applied g place (streams_from inputs) (with_moment g moment (further_args g args))))
 
 abbrev pub stream_call : Place → ℤ → StreamFn → Slots → End Val
-stream_call place moment g args = inputs_of g args >>= stream_made g place moment args
+stream_call place moment s.Yield args = yielded place args
+stream_call place moment g args = stream_made place moment g args
 
 -- ---- all of them
 
-abbrev pub native_call : Place → ℤ → Slots → Native → End Val
-native_call place moment args n.Now = pure (cell (scalar.Time moment))
-native_call place moment args (n.Convert k) = cell_of (codes "v") args >>= convert_call place k
-native_call place moment args n.Length = do
+abbrev pub convert_of : Place → Kind → Slots → End Val
+convert_of place k args = do
+  a ← cell_of (codes "v") args
+  convert_call place k a
+
+abbrev pub length_of : Place → Slots → End Val
+length_of place args = do
   vs ← items_of (codes "arr") args
-  cell_at place (Ok (scalar.Int (pos (count vs))))
-native_call place moment args n.Contains = do
+  cell_at place (Ok (scalar.Int (pos (length (val_list vs)))))
+
+abbrev pub contains_of : Slots → End Val
+contains_of args = do
   value ← cell_of (codes "value") args
   vs ← items_of (codes "set") args
   items ← cells_in vs
   contains value items
-native_call place moment args n.Split = do
+
+abbrev pub split_of : Place → Slots → End Val
+split_of place args = do
   text ← cell_of (codes "v") args
   by ← cell_of (codes "t") args
   split place text by
+
+abbrev pub native_call : Place → ℤ → Slots → Native → End Val
+native_call place moment args n.Now = pure (cell (scalar.Time moment))
+native_call place moment args (n.Convert k) = convert_of place k args
+native_call place moment args n.Length = length_of place args
+native_call place moment args n.Contains = contains_of args
+native_call place moment args n.Split = split_of place args
 native_call place moment args (n.Scalar g) = scalar_call place g args
 native_call place moment args (n.Stream g) = stream_call place moment g args

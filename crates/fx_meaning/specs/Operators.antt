@@ -1,5 +1,5 @@
 -- What operators, signs, texts, indices and members make of values.
-use Rattle.std.specs.Prelude.{ℕ, ◌&&◌, ◌||◌, ◌++◌, not, Bool, true, false, List, Option, None, Some, Result, Ok, Err, ℤ, pos, negsuc, neg_ℤ, if◌then◌else◌}
+use Rattle.std.specs.Prelude.{ℕ, ◌&&◌, ◌||◌, ◌++◌, not, Bool, true, false, List, Option, None, Some, Result, Ok, Err, ℤ, pos, negsuc, neg_ℤ, slice_get, if◌then◌else◌}
 use Rattle.std.specs.Fmt.{signed_decimal}
 use Rattle.std.specs.Ordering.{int_eq}
 use Rattle.fx_ast.specs.declared.expr.Infix.{Infix}
@@ -21,9 +21,9 @@ use Rattle.fx_value.specs.Ends.{End, Stuck}
 use Rattle.fx_value.specs.declared.scalar.Scalar.{Scalar}
 use Rattle.fx_value.specs.declared.scalar.Scalar.TheVariants as scalar
 use Rattle.fx_meaning.specs.Ends.{◌>>=◌, pure, found, answered, cell_at}
-use Rattle.fx_meaning.specs.Forms.{flag_in, nth}
+use Rattle.fx_meaning.specs.Forms.{cell_in, cell_or_span, flag_in, pattern_in, span_in, val_list}
 use Rattle.fx_meaning.specs.Native.{member, value_if}
-use Rattle.fx_meaning.specs.Value.{Label, Val, cell, span, pattern, rec, in_package, Vals, look}
+use Rattle.fx_meaning.specs.Value.{Label, Val, cell, span, rec, in_package, Vals, look}
 
 -- ---- `and` and `or`
 
@@ -48,8 +48,12 @@ logic decisive v w = do
   pure (cell (joined decisive a b))
 
 -- the left operand decides, and the right one isn't read
+abbrev pub is_truth_cell : Bool → Scalar → Bool
+is_truth_cell truth (scalar.Bool b) = if truth then b else not b
+is_truth_cell truth _ = false
+
 abbrev pub is_truth : Bool → Val → Bool
-is_truth truth (cell (scalar.Bool b)) = if truth then b else not b
+is_truth truth (cell a) = is_truth_cell truth a
 is_truth truth _ = false
 
 abbrev pub decides : Infix → Val → Bool
@@ -62,9 +66,10 @@ decides _ v = false
 abbrev pub of_cells : Place → BinaryOp → Scalar → Scalar → End Val
 of_cells place which a b = if is_taken which a b then cell_at place (binary_of which a b) else Stuck
 
-abbrev pub with_cell : Place → BinaryOp → Scalar → Val → End Val
-with_cell place which a (cell b) = of_cells place which a b
-with_cell place which a _ = Stuck
+abbrev pub with_cell : Place → BinaryOp → Val → Scalar → End Val
+with_cell place which w a = do
+  b ← cell_in w
+  of_cells place which a b
 
 abbrev pub same_span : Span → Span → Bool
 same_span d e = int_eq d.months e.months && int_eq d.nanos e.nanos
@@ -74,14 +79,13 @@ of_spans op.Eq d e = pure (cell (scalar.Bool (same_span d e)))
 of_spans op.Ne d e = pure (cell (scalar.Bool (not (same_span d e))))
 of_spans _ d e = Stuck
 
-abbrev pub with_span : BinaryOp → Span → Val → End Val
-with_span which d (span e) = of_spans which d e
-with_span which d _ = Stuck
+abbrev pub with_span : BinaryOp → Val → Span → End Val
+with_span which w d = do
+  e ← span_in w
+  of_spans which d e
 
 abbrev pub binary : Place → BinaryOp → Val → Val → End Val
-binary place which (cell a) w = with_cell place which a w
-binary place which (span d) w = with_span which d w
-binary place which _ w = Stuck
+binary place which v w = cell_or_span (with_cell place which w) (with_span which w) Stuck v
 
 -- whether the text matches the pattern, or doesn't where that is asked; null for null
 abbrev pub match_text : (ℕ → List ℕ → Bool) → Bool → ℕ → Scalar → End Val
@@ -89,13 +93,11 @@ match_text test wanted number (scalar.Text text) = pure (cell (scalar.Bool (if w
 match_text test wanted number scalar.Null = pure (cell scalar.Null)
 match_text test wanted number _ = Stuck
 
-abbrev pub match_with : (ℕ → List ℕ → Bool) → Bool → Scalar → Val → End Val
-match_with test wanted a (pattern number) = match_text test wanted number a
-match_with test wanted a _ = Stuck
-
 abbrev pub matched : (ℕ → List ℕ → Bool) → Bool → Val → Val → End Val
-matched test wanted (cell a) w = match_with test wanted a w
-matched test wanted _ w = Stuck
+matched test wanted v w = do
+  a ← cell_in v
+  number ← pattern_in w
+  match_text test wanted number a
 
 -- what an operator makes of two operands
 abbrev pub operate : (ℕ → List ℕ → Bool) → Place → Infix → Val → Val → End Val
@@ -127,9 +129,7 @@ abbrev pub plus_cell : Scalar → End Val
 plus_cell a = if takes_sign a then pure (cell a) else Stuck
 
 abbrev pub plus : Val → End Val
-plus (cell a) = plus_cell a
-plus (span d) = pure (span d)
-plus _ = Stuck
+plus v = cell_or_span plus_cell (λ d. pure (span d)) Stuck v
 
 abbrev pub minus_cell : Place → Scalar → End Val
 minus_cell place a = if takes_sign a then cell_at place (negation a) else Stuck
@@ -140,9 +140,7 @@ minus_span place d = do
   pure (span e)
 
 abbrev pub minus : Place → Val → End Val
-minus place (cell a) = minus_cell place a
-minus place (span d) = minus_span place d
-minus place _ = Stuck
+minus place v = cell_or_span (minus_cell place) (minus_span place) Stuck v
 
 abbrev pub opposite : Option Bool → Scalar
 opposite (Some b) = scalar.Bool (not b)
@@ -158,8 +156,9 @@ is_value scalar.Null = false
 is_value _ = true
 
 abbrev pub exists : Val → End Val
-exists (cell a) = pure (cell (scalar.Bool (is_value a)))
-exists _ = Stuck
+exists v = do
+  a ← cell_in v
+  pure (cell (scalar.Bool (is_value a)))
 
 abbrev pub prefixed : Place → Prefix → Val → End Val
 prefixed place sign.Plus v = plus v
@@ -193,7 +192,7 @@ item_or_fault (Some v) = Ok v
 item_or_fault None = Err IndexRange
 
 abbrev pub item : Vals → ℤ → Result Val FaultKind
-item vs (pos n) = item_or_fault (nth vs n)
+item vs (pos n) = item_or_fault (slice_get (val_list vs) n)
 item vs (negsuc n) = Err IndexRange
 
 abbrev pub indexed : Place → Vals → Scalar → End Val

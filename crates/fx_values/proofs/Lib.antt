@@ -1,0 +1,4 @@
+pub mod FormLaws
+pub mod ListLaws
+pub mod SpanLaws
+pub mod ValueLaws

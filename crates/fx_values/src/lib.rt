@@ -1,0 +1,14 @@
+//! Values of expressions, and what operators and the language's own functions make of them.
+#![tactic(auto, using(crate::proofs::ValueLaws::val_laws))]
+
+mod forms;
+mod operators;
+mod stop;
+mod value;
+
+pub use forms::{
+    argument, cell_in, fields_in, flag_in, items_in, look, pattern_in, span_in, stream_in, truth_in,
+};
+pub use operators::{binary_values, decides, logic, prefixed};
+pub use stop::Stop;
+pub use value::{Closure, Shown, Slot, StreamCall, Value};
