@@ -1,9 +1,11 @@
 pub mod Arguments
 pub mod Ask
 pub mod Environment
+pub mod Infers
 pub mod Native
 pub mod Operators
 pub mod Parameters
 pub mod Script
+pub mod Seen
 pub mod Typing
 pub mod Words

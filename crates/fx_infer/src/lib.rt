@@ -1,2 +1,5 @@
 //! Inference: which statements of a script have types.
 #![tactic(auto)]
+
+mod ask;
+mod operators;
