@@ -103,7 +103,7 @@ bounded_apart start stop begin end key same =
 -- ---- rows in windows
 
 -- no two of the numbers have such a relation
-Pairwise : (ℤ → ℤ → Type 0) → List ℤ → Type 0
+unfoldable pub Pairwise : (ℤ → ℤ → Type 0) → List ℤ → Type 0
 Pairwise R [] = Unit {0}
 Pairwise R (k ∷ ks) = AllByRecursion (R k) ks × Pairwise R ks
 
@@ -119,13 +119,13 @@ pairwise_numbers : (R : ℤ → ℤ → Type 0) (first next : ℤ) → ((j k : �
 pairwise_numbers R first next h = pairwise_so_many R first next (int_gap first next) refl h
 
 module _ (every period : Span) (r : Reach) (key : Key) where
-  abbrev key_of : ℤ → Key
+  abbrev pub key_of : ℤ → Key
   key_of k = bounded_key (raised every r.low k) (lowered every period r.high k) key
 
   abbrev in_window : List Row → ℤ → Table
   in_window rows k = rows_in every period r key rows k
 
-  Differ : ℤ → ℤ → Type 0
+  unfoldable pub Differ : ℤ → ℤ → Type 0
   Differ j k = key_of j ≡ key_of k → ⊥
 
   all_differ : (rows : List Row) (k : ℤ) (ks : List ℤ) → AllByRecursion (Differ k) ks → AllByRecursion (λ u. key_of k ≡ u.key → ⊥) (map (in_window rows) ks)
@@ -146,7 +146,7 @@ module _ (every period : Span) (r : Reach) (key : Key) where
       ∙ ap (λ g. all_joined g (map (in_window rows) ks)) (past (joined groups one) others (map (in_window (row ∷ [])) ks) (all_differ (row ∷ []) k ks h.0))
 
   -- a row of a lawful table, alone in each window, has the key of the window
-  alone_in : (row : Row) (k : ℤ) → IsLawfulTable (record { key = key; rows = row ∷ [] }) → alone (copy_at every period r key row k) ≡ in_window (row ∷ []) k
+  pub alone_in : (row : Row) (k : ℤ) → IsLawfulTable (record { key = key; rows = row ∷ [] }) → alone (copy_at every period r key row k) ≡ in_window (row ∷ []) k
   alone_in row k lawful =
       let set = (copy_at every period r key row k).row in
       let has = (bounded_lawful (raised every r.low k) (lowered every period r.high k) (record { key = key; rows = row ∷ [] }) lawful).columns.0 in
@@ -177,7 +177,7 @@ module _ (every period : Span) (r : Reach) (key : Key) where
       ∙ all_rows (with_rows groups (copies_of every period r key row)) next rows apart (record { rising = lawful.rising; columns = lawful.columns.1 })
       ∙ sym (with_both groups (copies_of every period r key row) (flat_map (copies_of every period r key) (next ∷ rows)))
 
-  all_apart : AreApart every period r → Pairwise Differ (numbers r.first r.next)
+  pub all_apart : AreApart every period r → Pairwise Differ (numbers r.first r.next)
   unfolding Differ
   all_apart apart =
       pairwise_numbers Differ r.first r.next (λ j k from rise to same.

@@ -1,7 +1,9 @@
 pub mod Batches
 pub mod Clipped
+pub mod Counts
 pub mod Cuts
 pub mod Joins
 pub mod Numbers
 pub mod Plain
+pub mod Unstuck
 pub mod Windows

@@ -1,6 +1,6 @@
 -- Whole numbers one after another.
 use Rattle.std.proofs.Common.{◌≡◌, ℕ, zero, suc, List, [], ◌∷◌, ◌++◌, map, length, ℤ, pos, negsuc, ◌+ℤ◌, ◌≤ℤ◌, refl, ap, ◌∙◌, arith}
-use Rattle.std.specs.Prelude.{◌<ℤ◌}
+use Rattle.std.specs.Prelude.{◌<ℤ◌, ◌-ℤ◌, unsigned_abs}
 use Rattle.std.specs.Int.{int_gap}
 use Rattle.std.specs.List.{flat_map, AllByRecursion}
 use Rattle.std.proofs.lemmas.Int.{ints}
@@ -11,6 +11,12 @@ gap_is (pos a) (pos b) h = omega (arith, ints)
 gap_is (pos a) (negsuc b) h = absurd (omega (arith, ints))
 gap_is (negsuc a) (pos b) h = omega (arith, ints)
 gap_is (negsuc a) (negsuc b) h = omega (arith, ints)
+
+pub gap_abs : (a b : ℤ) → a ≤ℤ b → unsigned_abs (b -ℤ a) ≡ int_gap a b
+gap_abs a b h =
+    let is = gap_is a b h in
+    let same : (b -ℤ a) ≡ pos (int_gap a b) = omega (arith, ints) in
+    ap unsigned_abs same
 
 pub gap_none : (a b : ℤ) → b ≤ℤ a → int_gap a b ≡ 0
 gap_none a b h = grind (arith, ints)

@@ -1,10 +1,10 @@
 -- Windows of time, one after another.
-use Rattle.std.proofs.Common.{◌≡◌, inl, inr, ℕ, zero, suc, ℤ, pos, ◌+ℤ◌, ◌*ℤ◌, ◌≤ℤ◌, true, false, FitsSigned, w64, sym, ap, subst, ◌∙◌, arith}
-use Rattle.std.proofs.Math.IntN.{+ℤ_one, suc_ℤ-*ℤ}
+use Rattle.std.proofs.Common.{◌≡◌, inl, inr, ℕ, zero, suc, ℤ, pos, ◌+ℤ◌, ◌*ℤ◌, ◌≤ℤ◌, true, false, FitsSigned, w64, sym, ap, subst, ◌∙◌, arith, refl}
+use Rattle.std.proofs.Math.IntN.{+ℤ_one, suc_ℤ-*ℤ, zero-*ℤ}
 use Rattle.std.proofs.lemmas.Int.{ints}
 use Rattle.std.specs.Prelude.{◌<ℤ◌, if◌then◌else◌}
 use Rattle.std.specs.Int.{int_gap}
-use Rattle.fx_time.specs.Months.{month_start}
+use Rattle.fx_time.specs.Months.{month_start, days_after}
 use Rattle.fx_time.specs.Windows.{IsWindow, IsWindowPair, has_months, window_start, window_stop, IsLeast, IsNear}
 use Rattle.fx_time.specs.declared.span.Span.{Span}
 use Rattle.fx_time.proofs.MonthLemmas.{first_day-lt}
@@ -60,6 +60,29 @@ module _ (every : Span) (window : IsWindow every) where
 
   pub starts_le : (a b : ℤ) → a ≤ℤ b → window_start every a ≤ℤ window_start every b
   starts_le = rises_or_is (window_start every) (λ k. start_next every k window)
+
+-- windows that lie some numbers apart start at least as far apart
+pub start_grows : (every : Span) → IsWindow every → (k : ℤ) (n : ℕ) → (window_start every k +ℤ pos n) ≤ℤ window_start every (k +ℤ pos n)
+start_grows every window k zero =
+    let same : (k +ℤ pos 0) ≡ k = omega (arith, ints) in
+    subst (λ z. (window_start every k +ℤ pos 0) ≤ℤ window_start every z) (sym same) (omega (arith, ints))
+start_grows every window k (suc n) =
+    let before = start_grows every window k n in
+    let step = start_next every (k +ℤ pos n) window in
+    let same : (k +ℤ pos n +ℤ pos 1) ≡ (k +ℤ pos (suc n)) = omega (arith, ints) in
+    subst (λ z. (window_start every k +ℤ pos (suc n)) ≤ℤ window_start every z) same (omega (arith, ints))
+
+month_zero : month_start (pos 0) ≡ pos 0
+unfolding days_after
+month_zero = refl
+
+-- window 0 starts with 1970
+pub start_of_zero : (every : Span) → window_start every (pos 0) ≡ pos 0
+start_of_zero every =
+    elim (has_months every) as (λ b. (if b then month_start (pos 0 *ℤ every.months) else pos 0 *ℤ every.nanos) ≡ pos 0) [
+      | true ↦ ap month_start (zero-*ℤ every.months) ∙ month_zero
+      | false ↦ zero-*ℤ every.nanos
+    ]
 
 -- each window stops before the next
 stop_rises : (every period : Span) (k : ℤ) → IsWindowPair every period → window_stop every period k <ℤ window_stop every period (k +ℤ pos 1)

@@ -1,5 +1,5 @@
 -- A table cut into windows.
-use Rattle.std.specs.Prelude.{ℤ, pos, ◌+ℤ◌, ◌-ℤ◌, int_lt, Bool, List, [], ◌∷◌, map, Option, None, Some, if◌then◌else◌}
+use Rattle.std.specs.Prelude.{ℕ, ℤ, pos, ◌+ℤ◌, ◌-ℤ◌, int_lt, Bool, List, [], ◌∷◌, map, length, Option, None, Some, if◌then◌else◌}
 use Rattle.std.specs.Int.{int_min, int_max}
 use Rattle.std.specs.List.{flat_map}
 use Rattle.fx_time.specs.Windows.{last_started, last_stopped}
@@ -55,3 +55,7 @@ cut_by every all key ps (Some b) = record { start = b.start; stop = b.stop; wind
 -- `cut`: the windows of a table between its bounds, in their order
 unfoldable pub cut_of : Span → Bool → Table → End CutTable
 cut_of every all t = and_then (placed_rows t.rows) (λ ps. Gives (cut_by every all t.key ps (bounds_of ps)) 0)
+
+-- how many windows it makes
+abbrev pub cut_size : Span → Bool → Table → End ℕ
+cut_size every all t = and_then (cut_of every all t) (λ parts. Gives (length parts.windows) 0)

@@ -32,9 +32,9 @@ pub struct CutTable {
 
 /// The least start and the greatest stop of rows.
 #[derive(Clone, Copy)]
-struct Bounds {
-    start: i64,
-    stop: i64,
+pub(crate) struct Bounds {
+    pub start: i64,
+    pub stop: i64,
 }
 
 fn lesser(a: i64, b: i64) -> i64
@@ -65,7 +65,7 @@ fn wider(bounds: Option<Bounds>, placed: &Placed) -> Bounds
     }
 }
 
-fn bounds_of(placed: &[Placed]) -> Option<Bounds>
+pub(crate) fn bounds_of(placed: &[Placed]) -> Option<Bounds>
     ensures { result ≡ bounds_of placed.now }
 {
     let mut bounds = None;
