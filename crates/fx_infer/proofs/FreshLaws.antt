@@ -48,13 +48,13 @@ record_row r h = (h.0.0, record_field r h)
 pub type_agrees : (n : ℕ) (t : Ground) (s : Solution) → Agree n s (with_type n t s)
 type_agrees n t s = λ m lt. (before n t s.type_of m lt, refl, refl)
 
-row_agrees : (n : ℕ) (r : GroundRow) (s : Solution) → Agree n s (with_row n r s)
+pub row_agrees : (n : ℕ) (r : GroundRow) (s : Solution) → Agree n s (with_row n r s)
 row_agrees n r s = λ m lt. (refl, refl, before n r s.row_of m lt)
 
 pub type_within : (n : ℕ) (t : Ground) (s : Solution) → IsType t → Within s → Within (with_type n t s)
 type_within n t s is within = (all_of IsType n t s.type_of is within.0, within.1, within.2)
 
-row_within : (n : ℕ) (r : GroundRow) (s : Solution) → IsRow r → Within s → Within (with_row n r s)
+pub row_within : (n : ℕ) (r : GroundRow) (s : Solution) → IsRow r → Within s → Within (with_row n r s)
 row_within n r s is within = (within.0, within.1, all_of IsRow n r s.row_of is within.2)
 
 -- a type variable that is asked to be a type

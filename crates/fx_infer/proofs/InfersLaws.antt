@@ -8,7 +8,7 @@ use Rattle.fx_unify.specs.Solutions.{Solves, next_of}
 use Rattle.fx_unify.specs.Work.{Within}
 use Rattle.fx_infer.specs.Infers.{Infers, Asks, HasNone}
 
-agree_then : (n m : ℕ) (s q o : Solution) → n ≤ m → Agree n s q → Agree m q o → Agree n s o
+pub agree_then : (n m : ℕ) (s q o : Solution) → n ≤ m → Agree n s q → Agree m q o → Agree n s o
 agree_then n m s q o le first second = λ i lt. (
   (first i lt).0 ∙ (second i (omega arith)).0,
   (first i lt).1 ∙ (second i (omega arith)).1,

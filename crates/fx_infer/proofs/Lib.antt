@@ -2,7 +2,9 @@ pub mod AskingLaws
 pub mod CallLaws
 pub mod FreshLaws
 pub mod InfersLaws
+pub mod RuleLaws
 pub mod ScriptLaws
 pub mod SeenLaws
 pub mod TypingLaws
+pub mod UseLaws
 pub mod Worked

@@ -14,19 +14,19 @@ use Rattle.fx_types.proofs.RowSums.{same_is, same_itself}
 use Rattle.fx_unify.specs.Part.{Variable, type_node, field_node, slot_node, as_part, value}
 use Rattle.fx_unify.specs.Work.{Within, IsRow}
 use Rattle.fx_unify.proofs.LabelLaws.{fresh_label}
-use Rattle.fx_infer.specs.Seen.{unless, is_type, is_field, is_row_off, sees, sees_labels, sees_pipe, sees_field, sees_fields, sees_tail, sees_any, shown_of}
+use Rattle.fx_infer.specs.Seen.{unless, is_type, is_field, is_row_off, sees, sees_labels, sees_pipe, sees_field, sees_fields, sees_tail, kept_at}
 
 -- tests
 
-or_left : (a b : Bool) → a ≡ true → (a || b) ≡ true
+pub or_left : (a b : Bool) → a ≡ true → (a || b) ≡ true
 or_left true b e = refl
 or_left false b e = absurd (true≢false (sym e))
 
-or_right : (a b : Bool) → b ≡ true → (a || b) ≡ true
+pub or_right : (a b : Bool) → b ≡ true → (a || b) ≡ true
 or_right true b e = refl
 or_right false b e = e
 
-split : {C : Type 0} (a b : Bool) → (a || b) ≡ true → (a ≡ true → C) → (b ≡ true → C) → C
+pub split : {C : Type 0} (a b : Bool) → (a || b) ≡ true → (a ≡ true → C) → (b ≡ true → C) → C
 split true b e f g = f refl
 split false b e f g = g e
 
@@ -68,11 +68,11 @@ both_ways false a d b e f g = g refl
 -- solutions that agree where a term shows them make the same of it
 
 module _ (s q : Solution) where
-  abbrev Same : Variable → Type 0
+  abbrev pub Same : Variable → Type 0
   Same x = value s (as_part x) ≡ value q (as_part x)
 
   mutual
-    same_term : (t : Term) → ((x : Variable) → sees x t ≡ true → Same x) → ground s t ≡ ground q t
+    pub same_term : (t : Term) → ((x : Variable) → sees x t ≡ true → Same x) → ground s t ≡ ground q t
     same_term bool h = refl
     same_term int h = refl
     same_term text h = refl
@@ -89,7 +89,7 @@ module _ (s q : Solution) where
     same_term (rec fs r) h = λ i. g_rec (λ l. same_fields [] fs (λ x before. sees_tail x before r) (ground_tail s r) (ground_tail q r) (λ before d k off. same_tail before r d k off) h l refl i)
     same_term (stream fs r) h = λ i. g_stream (λ l. same_fields [] fs (λ x before. sees_tail x before r) (ground_tail s r) (ground_tail q r) (λ before d k off. same_tail before r d k off) h l refl i)
 
-    same_labels : (before : List Label) (ls : Labels) → ((x : Variable) → sees_labels x before ls ≡ true → Same x) → (l : Label) → listed l before ≡ false → ground_labels s ls l ≡ ground_labels q ls l
+    pub same_labels : (before : List Label) (ls : Labels) → ((x : Variable) → sees_labels x before ls ≡ true → Same x) → (l : Label) → listed l before ≡ false → ground_labels s ls l ≡ ground_labels q ls l
     same_labels before no_labels h l off = refl
     same_labels before (more_labels k t ls) h l off =
         both_ways (same_text l k) (g_is (ground s t)) (g_is (ground q t)) (ground_labels s ls l) (ground_labels q ls l)
@@ -151,7 +151,7 @@ module _ (s : Solution) where
       subst (λ k. IsTypeField (s.row_of k l)) (sym (eqb-true r n there.0)) (h l (not_true (listed l before) there.1))
 
   mutual
-    seen_part : (t : Term) → IsType (ground s t) → (x : Variable) → sees x t ≡ true → IsTypeField (value s (as_part x))
+    pub seen_part : (t : Term) → IsType (ground s t) → (x : Variable) → sees x t ≡ true → IsTypeField (value s (as_part x))
     seen_part (type_variable n) h x e = seen_type n h x e
     seen_part (array t) h x e = seen_part t (element_type (ground s t) h) x e
     seen_part (fun ls p t) h x e =
@@ -166,7 +166,7 @@ module _ (s : Solution) where
         seen_fields [] fs (λ before. sees_tail x before r) (ground_tail s r) x (λ before d c. seen_tail before r d x c) (λ l off. stream_field (ground_fields s fs (ground_tail s r)) h l) e
     seen_part _ h x e = absurd (true≢false (sym e))
 
-    seen_labels : (before : List Label) (ls : Labels) → ((l : Label) → listed l before ≡ false → IsTypeField (ground_labels s ls l)) → (x : Variable) → sees_labels x before ls ≡ true
+    pub seen_labels : (before : List Label) (ls : Labels) → ((l : Label) → listed l before ≡ false → IsTypeField (ground_labels s ls l)) → (x : Variable) → sees_labels x before ls ≡ true
         → IsTypeField (value s (as_part x))
     seen_labels before no_labels h x e = absurd (true≢false (sym e))
     seen_labels before (more_labels k t ls) h x e =
@@ -200,12 +200,12 @@ module _ (s : Solution) where
 -- a row variable that a term shows is shown at all labels but finitely many, where it has one plain field
 
 module _ (s : Solution) (r : ℕ) where
-  abbrev Rest : (Label → Bool) → Type 0
+  abbrev pub Rest : (Label → Bool) → Type 0
   Rest see =
       ((l : Label) → see l ≡ false)
       ⊎ ((ls : List Label) × (d : GroundField) × IsTrue (is_plain d) × ((l : Label) → listed l ls ≡ false → (see l ≡ true) × (s.row_of r l ≡ d)))
 
-  rest_or : (f g : Label → Bool) → Rest f → Rest g → Rest (λ l. f l || g l)
+  pub rest_or : (f g : Label → Bool) → Rest f → Rest g → Rest (λ l. f l || g l)
   rest_or f g (inr a) b = inr (a.0, a.1, a.2, λ l off. (or_left (f l) (g l) (a.3 l off).0, (a.3 l off).1))
   rest_or f g (inl a) (inr b) = inr (b.0, b.1, b.2, λ l off. (or_right (f l) (g l) (b.3 l off).0, (b.3 l off).1))
   rest_or f g (inl a) (inl b) = inl (λ l. or_none (f l) (g l) (a l) (b l))
@@ -246,7 +246,7 @@ module _ (s : Solution) (r : ℕ) where
       (d.1.0, d.0, subst (λ g. IsTrue (is_plain g)) (d.1.1 l.0 l.1) (h.0.1 l.0), λ k off. (refl, d.1.1 k off))
 
   mutual
-    rest_term : (t : Term) → IsType (ground s t) → Rest (λ l. sees (slot_node r l) t)
+    pub rest_term : (t : Term) → IsType (ground s t) → Rest (λ l. sees (slot_node r l) t)
     rest_term (array t) h = rest_term t (element_type (ground s t) h)
     rest_term (fun ls p t) h =
         rest_or (λ l. sees_labels (slot_node r l) [] ls) (λ l. sees_pipe (slot_node r l) p || sees (slot_node r l) t)
@@ -261,7 +261,7 @@ module _ (s : Solution) (r : ℕ) where
         (λ l off. stream_field (ground_fields s fs (ground_tail s t)) h l) (stream_off (ground_fields s fs (ground_tail s t)) h)
     rest_term _ h = inl (λ l. refl)
 
-    rest_labels : (before : List Label) (ls : Labels) → ((l : Label) → listed l before ≡ false → IsTypeField (ground_labels s ls l)) → Rest (λ l. sees_labels (slot_node r l) before ls)
+    pub rest_labels : (before : List Label) (ls : Labels) → ((l : Label) → listed l before ≡ false → IsTypeField (ground_labels s ls l)) → Rest (λ l. sees_labels (slot_node r l) before ls)
     rest_labels before no_labels h = inl (λ l. refl)
     rest_labels before (more_labels k t ls) h =
         rest_or (λ l. unless (listed k before) (sees (slot_node r l) t)) (λ l. sees_labels (slot_node r l) (k ∷ before) ls)
@@ -292,50 +292,37 @@ module _ (s : Solution) (r : ℕ) where
     rest_tail before (default f) h off = rest_field f (h (fresh_label before []).0 (fresh_label before []).1)
     rest_tail before (row_variable n) h off = rest_row before n off
 
--- all of them
+-- the solution that is kept where a test says so
 
-abbrev pub AllTypes : Solution → List Term → Type 0
-AllTypes s [] = Unit {0}
-AllTypes s (t ∷ ts) = IsType (ground s t) × AllTypes s ts
+abbrev pub AllSeen : (Variable → Bool) → Solution → Type 0
+AllSeen test s = ((x : Variable) → test x ≡ true → IsTypeField (value s (as_part x))) × ((r : ℕ) → Rest s r (λ l. test (slot_node r l)))
 
-seen_any : (s : Solution) (ts : List Term) → AllTypes s ts → (x : Variable) → sees_any x ts ≡ true → IsTypeField (value s (as_part x))
-seen_any s [] h x e = absurd (true≢false (sym e))
-seen_any s (t ∷ ts) h x e = split (sees x t) (sees_any x ts) e (λ d. seen_part s t h.0 x d) (λ d. seen_any s ts h.1 x d)
-
-rest_any : (s : Solution) (r : ℕ) (ts : List Term) → AllTypes s ts → Rest s r (λ l. sees_any (slot_node r l) ts)
-rest_any s r [] h = inl (λ l. refl)
-rest_any s r (t ∷ ts) h = rest_or s r (λ l. sees (slot_node r l) t) (λ l. sees_any (slot_node r l) ts) (rest_term s r t h.0) (rest_any s r ts h.1)
-
-shown_row : (s : Solution) (ts : List Term) → AllTypes s ts → (r : ℕ) → Rest s r (λ l. sees_any (slot_node r l) ts) → IsRow ((shown_of ts s).row_of r)
-shown_row s ts h r rest = (default rest, field)
+kept_row : (test : Variable → Bool) (s : Solution) → AllSeen test s → (r : ℕ) → IsRow ((kept_at test s).row_of r)
+kept_row test s h r = (default (h.1 r), field)
   where
-    field : (l : Label) → IsTypeField ((shown_of ts s).row_of r l)
-    field l = by_cases (sees_any (slot_node r l) ts)
-        (λ e. subst IsTypeField (sym (chosen (sees_any (slot_node r l) ts) (s.row_of r l) g_absent e)) (seen_any s ts h (slot_node r l) e))
-        (λ e. subst IsTypeField (sym (passed (sees_any (slot_node r l) ts) (s.row_of r l) g_absent e)) (tt, tt))
+    field : (l : Label) → IsTypeField ((kept_at test s).row_of r l)
+    field l = by_cases (test (slot_node r l))
+        (λ e. subst IsTypeField (sym (chosen (test (slot_node r l)) (s.row_of r l) g_absent e)) (h.0 (slot_node r l) e))
+        (λ e. subst IsTypeField (sym (passed (test (slot_node r l)) (s.row_of r l) g_absent e)) (tt, tt))
 
-    default : Rest s r (λ l. sees_any (slot_node r l) ts) → (d : GroundField) × IsTrue (is_plain d) × HasDefault ((shown_of ts s).row_of r) d
-    default (inl none) = (g_absent, refl, ([], λ l off. passed (sees_any (slot_node r l) ts) (s.row_of r l) g_absent (none l)))
-    default (inr a) = (a.1, a.2, (a.0, λ l off. chosen (sees_any (slot_node r l) ts) (s.row_of r l) g_absent (a.3 l off).0 ∙ (a.3 l off).1))
+    default : Rest s r (λ l. test (slot_node r l)) → (d : GroundField) × IsTrue (is_plain d) × HasDefault ((kept_at test s).row_of r) d
+    default (inl none) = (g_absent, refl, ([], λ l off. passed (test (slot_node r l)) (s.row_of r l) g_absent (none l)))
+    default (inr a) = (a.1, a.2, (a.0, λ l off. chosen (test (slot_node r l)) (s.row_of r l) g_absent (a.3 l off).0 ∙ (a.3 l off).1))
 
-pub shown_within : (s : Solution) (ts : List Term) → AllTypes s ts → Within (shown_of ts s)
-shown_within s ts h = (types, fields, λ r. shown_row s ts h r (rest_any s r ts h))
+pub kept_within : (test : Variable → Bool) (s : Solution) → AllSeen test s → Within (kept_at test s)
+kept_within test s h = (types, fields, kept_row test s h)
   where
-    types : (n : ℕ) → IsType ((shown_of ts s).type_of n)
-    types n = by_cases (sees_any (type_node n) ts)
-        (λ e. subst IsType (sym (chosen (sees_any (type_node n) ts) (s.type_of n) g_int e)) (seen_any s ts h (type_node n) e))
-        (λ e. subst IsType (sym (passed (sees_any (type_node n) ts) (s.type_of n) g_int e)) (tt, omega arith))
+    types : (n : ℕ) → IsType ((kept_at test s).type_of n)
+    types n = by_cases (test (type_node n))
+        (λ e. subst IsType (sym (chosen (test (type_node n)) (s.type_of n) g_int e)) (h.0 (type_node n) e))
+        (λ e. subst IsType (sym (passed (test (type_node n)) (s.type_of n) g_int e)) (tt, omega arith))
 
-    fields : (n : ℕ) → IsTypeField ((shown_of ts s).field_of n)
-    fields n = by_cases (sees_any (field_node n) ts)
-        (λ e. subst IsTypeField (sym (chosen (sees_any (field_node n) ts) (s.field_of n) g_absent e)) (seen_any s ts h (field_node n) e))
-        (λ e. subst IsTypeField (sym (passed (sees_any (field_node n) ts) (s.field_of n) g_absent e)) (tt, tt))
+    fields : (n : ℕ) → IsTypeField ((kept_at test s).field_of n)
+    fields n = by_cases (test (field_node n))
+        (λ e. subst IsTypeField (sym (chosen (test (field_node n)) (s.field_of n) g_absent e)) (h.0 (field_node n) e))
+        (λ e. subst IsTypeField (sym (passed (test (field_node n)) (s.field_of n) g_absent e)) (tt, tt))
 
-shown_value : (s : Solution) (ts : List Term) (x : Variable) → sees_any x ts ≡ true → value (shown_of ts s) (as_part x) ≡ value s (as_part x)
-shown_value s ts (type_node n) e = ap g_is (chosen (sees_any (type_node n) ts) (s.type_of n) g_int e)
-shown_value s ts (field_node n) e = chosen (sees_any (field_node n) ts) (s.field_of n) g_absent e
-shown_value s ts (slot_node r l) e = chosen (sees_any (slot_node r l) ts) (s.row_of r l) g_absent e
-
--- the terms stay as they are: each that shows nothing but what these show
-pub shown_same : (s : Solution) (ts : List Term) (t : Term) → ((x : Variable) → sees x t ≡ true → sees_any x ts ≡ true) → ground (shown_of ts s) t ≡ ground s t
-shown_same s ts t h = same_term (shown_of ts s) s t (λ x e. shown_value s ts x (h x e))
+pub kept_value : (test : Variable → Bool) (s : Solution) (x : Variable) → test x ≡ true → value (kept_at test s) (as_part x) ≡ value s (as_part x)
+kept_value test s (type_node n) e = ap g_is (chosen (test (type_node n)) (s.type_of n) g_int e)
+kept_value test s (field_node n) e = chosen (test (field_node n)) (s.field_of n) g_absent e
+kept_value test s (slot_node r l) e = chosen (test (slot_node r l)) (s.row_of r l) g_absent e

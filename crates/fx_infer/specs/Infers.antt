@@ -1,8 +1,9 @@
 -- What inference makes of a question: bindings under which it is answered, and what each solution of them gives.
 use Rattle.std.specs.Prelude.{◌≡◌, ℕ, ◌≤◌}
 use Rattle.fx_types.specs.Agree.{Agree}
-use Rattle.fx_types.specs.Instance.{Solution, ground}
-use Rattle.fx_types.specs.Term.{Term}
+use Rattle.fx_types.specs.Instance.{Solution, ground, ground_labels, ground_pipe}
+use Rattle.fx_types.specs.Size.{IsType}
+use Rattle.fx_types.specs.Term.{Term, Labels, Pipe}
 use Rattle.fx_unify.specs.declared.bindings.Bindings.{Bindings}
 use Rattle.fx_unify.specs.Solutions.{Solves, next_of}
 use Rattle.fx_unify.specs.Work.{Within}
@@ -29,3 +30,11 @@ HasNone {R = R} T old = (s : Solution) → Solves s old → Within s → (r : R)
 -- what the term stands for is told by the numbers below n
 abbrev pub IsBelow : ℕ → Term → Type 0
 IsBelow n t = (s q : Solution) → Agree n s q → ground s t ≡ ground q t
+
+-- the same of what a call gives
+abbrev pub AreBelow : ℕ → Labels → Pipe → Type 0
+AreBelow n ls p = (s q : Solution) → Agree n s q → (ground_labels s ls ≡ ground_labels q ls) × (ground_pipe s p ≡ ground_pipe q p)
+
+-- the term stands for types
+abbrev pub IsTypedIn : Bindings → Term → Type 0
+IsTypedIn b t = (s : Solution) → Solves s b → IsType (ground s t)

@@ -5,7 +5,9 @@ pub mod Infers
 pub mod Native
 pub mod Operators
 pub mod Parameters
+pub mod Rules
 pub mod Script
 pub mod Seen
 pub mod Typing
+pub mod Uses
 pub mod Words

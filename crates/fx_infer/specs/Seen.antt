@@ -54,15 +54,11 @@ abbrev mutual
   sees_tail x before (default f) = sees_field x f
   sees_tail x before (row_variable n) = is_row_off x before n
 
-abbrev pub sees_any : Variable → List Term → Bool
-sees_any x [] = false
-sees_any x (t ∷ ts) = sees x t || sees_any x ts
-
--- the solution where the terms show it, and what is plainest elsewhere
-abbrev pub shown_of : List Term → Solution → Solution
-shown_of ts s =
+-- the solution at the variables that pass the test, and what is plainest elsewhere
+abbrev pub kept_at : (Variable → Bool) → Solution → Solution
+kept_at test s =
     record {
-      type_of = λ n. if sees_any (type_node n) ts then s.type_of n else g_int;
-      field_of = λ n. if sees_any (field_node n) ts then s.field_of n else g_absent;
-      row_of = λ r l. if sees_any (slot_node r l) ts then s.row_of r l else g_absent;
+      type_of = λ n. if test (type_node n) then s.type_of n else g_int;
+      field_of = λ n. if test (field_node n) then s.field_of n else g_absent;
+      row_of = λ r l. if test (slot_node r l) then s.row_of r l else g_absent;
     }

@@ -63,7 +63,7 @@ pub(crate) fn equal(
 }
 
 /// The first number that nothing is asked of.
-fn unused(bindings: &Bindings) -> Result<u32, Memory>
+pub(crate) fn unused(bindings: &Bindings) -> Result<u32, Memory>
     ensures { IfOk result (λ n. n ≡ next_of bindings.now) }
 {
     match bindings.unused(1) {

@@ -3,3 +3,5 @@
 
 mod ask;
 mod operators;
+mod rules;
+mod terms;
