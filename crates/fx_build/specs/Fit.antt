@@ -4,7 +4,6 @@
 -- environment says of a name. That a value fits a type is the case of a parameter of the type.
 use Rattle.std.specs.Prelude.{◌≡◌, ◌<◌, ◌^◌, ◌&&◌, ℕ, ℤ, Bool, true, false, List, [], ◌∷◌, Option, None, Some, IsTrue, codes}
 use Rattle.fx_base.specs.Text.{same_text}
-use Rattle.fx_base.specs.declared.place.Place.{Place}
 use Rattle.fx_time.specs.declared.span.Span.{Span}
 use Rattle.fx_value.specs.declared.scalar.Kind.{Kind}
 use Rattle.fx_value.specs.declared.scalar.Kind.TheVariants as kind
@@ -31,7 +30,6 @@ use Rattle.fx_meaning.specs.Meaning.{numbered}
 use Rattle.fx_meaning.specs.Native as natives
 use Rattle.fx_meaning.specs.Native.{native_builtin, path_of, stream_builtin, value_if}
 use Rattle.fx_meaning.specs.Natives.{input_labels, is_name}
-use Rattle.fx_meaning.specs.Value as value
 use Rattle.fx_meaning.specs.Value.{Val, cell, span, pattern, array, rec, closure, native, in_package, stream, shown, Vals, no_vals, more_vals, Slots, no_slots, more_slots, look, is_there, Stream, applied, Streams, no_streams, more_streams}
 use Rattle.fx_infer.specs.Ask.{type_is, either}
 use Rattle.fx_infer.specs.Environment.{Env, HasType, scope}
@@ -67,7 +65,8 @@ PatternFits number _ = ⊥
 
 -- a built-in, taken as a value
 abbrev pub NativeFits : Native → Ground → Type 0
-NativeFits g t = IsType t × IsValueOf (native_builtin g) t
+NativeFits g (g_fun needs input t) = IsType (g_fun needs input t) × IsValueOf (native_builtin g) (g_fun needs input t)
+NativeFits g _ = ⊥
 
 -- ---- what stands at labels
 
@@ -212,7 +211,7 @@ abbrev mutual
   pub stream_fits : Stream → Ground → Type 0
   stream_fits (applied g place inputs args) t =
       (w : Given) × (L : Line) × (needs : GroundRow) × (input : GroundField)
-      × (said_in (stream_builtin g) args ≡ Some w) × IsLine (stream_builtin g) w L × IsType L.type × (L.type ≡ g_fun needs input t)
+      × (said_in (Some (stream_builtin g)) args ≡ Some w) × IsLine (stream_builtin g) w L × IsType L.type × (L.type ≡ g_fun needs input t)
       × InputsFit g (inputs_fit inputs) (inputs_at inputs) (with_input L.pipe_label input needs)
       × FurtherFit g args (keeps_at args) (with_input L.pipe_label input needs) L.optional
 

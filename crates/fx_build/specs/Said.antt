@@ -7,12 +7,11 @@ use Rattle.fx_schemes.specs.declared.form.Form.TheVariants as form
 use Rattle.fx_schemes.specs.declared.given.LabelWords.{LabelWords}
 use Rattle.fx_schemes.specs.declared.list.Builtin.{Builtin}
 use Rattle.fx_schemes.specs.Given.{Given}
-use Rattle.fx_schemes.specs.Signature.{form_of}
 use Rattle.fx_meaning.specs.declared.native.Native.{Native}
 use Rattle.fx_meaning.specs.declared.native.Native.TheVariants as n
 use Rattle.fx_meaning.specs.declared.stream.StreamFn.TheVariants as s
 use Rattle.fx_meaning.specs.Value.{Val, cell, array, rec, native, Vals, no_vals, more_vals, Slots, no_slots, more_slots}
-use Rattle.fx_infer.specs.Words.{with_first, one_word, many_words, new_words}
+use Rattle.fx_infer.specs.Words.{form_at, with_first, one_word, many_words, new_words}
 
 abbrev pub text_in : Val → Option Label
 text_in (cell (scalar.Text text)) = Some text
@@ -56,7 +55,7 @@ abbrev pub and_says : Option Form → Label → Val → Option Given → Option 
 and_says None x v rest = rest
 and_says (Some f) x v rest = with_first (value_says f x v) rest
 
--- what the label arguments say, in the call's order, None where one doesn't have its form
-abbrev pub said_in : Builtin → Slots → Option Given
+-- what the label arguments of a call say, in the call's order, None where one doesn't have its form
+abbrev pub said_in : Option Builtin → Slots → Option Given
 said_in b no_slots = Some []
-said_in b (more_slots x v args) = and_says (form_of b x) x v (said_in b args)
+said_in b (more_slots x v args) = and_says (form_at b x) x v (said_in b args)

@@ -1,0 +1,4 @@
+pub mod KindLaws
+pub mod OperatorLaws
+pub mod SafeLaws
+pub mod SlotLaws
