@@ -1,4 +1,5 @@
 pub mod KindLaws
+pub mod NameLaws
 pub mod OperatorLaws
 pub mod SafeLaws
 pub mod SlotLaws
