@@ -92,10 +92,10 @@ abbrev pub Makes : Kind → Result Scalar FaultKind → Type 0
 Makes k (Ok a) = IsTrue (is_kind a k)
 Makes k (Err fault) = Unit {0}
 
-abbrev cell_answered : Place → Result Scalar FaultKind → End Val
+abbrev pub cell_answered : Place → Result Scalar FaultKind → End Val
 cell_answered place answer = answered place answer >>= (λ b. pure (cell b))
 
-checked : (place : Place) (P : Val → Type 0) (c : Bool) (a : Scalar) (fault : FaultKind) → (c ≡ true → P (cell a)) → IsSafe P (cell_answered place (if c then Ok a else Err fault))
+pub checked : (place : Place) (P : Val → Type 0) (c : Bool) (a : Scalar) (fault : FaultKind) → (c ≡ true → P (cell a)) → IsSafe P (cell_answered place (if c then Ok a else Err fault))
 checked place P true a fault h = h refl
 checked place P false a fault h = tt
 

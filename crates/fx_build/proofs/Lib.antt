@@ -3,3 +3,4 @@ pub mod NameLaws
 pub mod OperatorLaws
 pub mod SafeLaws
 pub mod SlotLaws
+pub mod WordLaws

@@ -181,7 +181,7 @@ unbound_newest : (c : Bool) (x : Label) (d older : Bound) → (IsUnbound d → �
 unbound_newest true x d older never rest h = absurd (never h)
 unbound_newest false x d older never rest h = rest h
 
-unbound_itself : (env : Env) (x : Label) → IsUnbound (find x env) → find x env ≡ unbound x
+pub unbound_itself : (env : Env) (x : Label) → IsUnbound (find x env) → find x env ≡ unbound x
 unbound_itself [] x h = refl
 unbound_itself (param y t ∷ env) x h = unbound_newest (same_text x y) x (typed t) (find x env) (λ h. h) (unbound_itself env x) h
 unbound_itself (assigned y e ∷ env) x h = unbound_newest (same_text x y) x (defined env e) (find x env) (λ h. h) (unbound_itself env x) h

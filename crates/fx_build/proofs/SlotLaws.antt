@@ -1,6 +1,7 @@
 -- What stands at a label.
 use Rattle.std.proofs.Common.{◌≡◌, refl, sym, ap, ◌∙◌, Bool, true, false, Option, None, Some}
 use Rattle.std.specs.Prelude.{if◌then◌else◌}
+use Rattle.std.proofs.lemmas.Cmp.{nat_list_eq_equiv}
 use Rattle.std.specs.Cmp.Lexicographic.{same_text as equal_text}
 use mathlib.Core.Bool.{false≢true}
 use Rattle.fx_base.specs.Text.{same_text}
@@ -9,6 +10,9 @@ use Rattle.fx_meaning.specs.Value.{Val, Slots, no_slots, more_slots, look, or_el
 use Rattle.fx_infer.specs.Ask.{either}
 use Rattle.fx_build.specs.Bound.{Bound}
 use Rattle.fx_build.specs.Fit.{keeps, keeps_at}
+
+pub same_itself : (x : Label) → same_text x x ≡ true
+same_itself x = nat_list_eq_equiv.refl x
 
 -- ---- where a label stands
 
