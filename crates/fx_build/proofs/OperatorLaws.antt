@@ -1,5 +1,5 @@
 -- Operators and signs on operands of the types that they take.
-use Rattle.std.proofs.Common.{◌≡◌, refl, sym, subst, ◌∙◌, inl, inr, Bool, true, false, ◌&&◌, ◌||◌, not, List, [], ◌∷◌, ◌++◌, ℕ, ℤ, ◌+ℤ◌, ◌-ℤ◌, ◌*ℤ◌, pos, neg_ℤ, int_div, int_rem, Some, None, Ok, Err, ◌⊎◌, IsTrue, is_some}
+use Rattle.std.proofs.Common.{◌≡◌, refl, sym, subst, ◌∙◌, inl, inr, Bool, true, false, ◌&&◌, ◌||◌, not, List, [], ◌∷◌, ◌++◌, ℕ, ℤ, ◌+ℤ◌, ◌-ℤ◌, ◌*ℤ◌, pos, negsuc, zero, suc, neg_ℤ, int_div, int_rem, Some, None, Ok, Err, ◌⊎◌, IsTrue, is_some}
 use Rattle.std.specs.Prelude.{if◌then◌else◌, Option}
 use Rattle.std.specs.Ordering.{int_eq}
 use Rattle.std.proofs.lemmas.Bool.{and_from, and_parts}
@@ -24,17 +24,18 @@ use Rattle.fx_ops.specs.Operand.{number, bytes}
 use Rattle.fx_ops.specs.Whole.{in_64_bits, whole, quotient, remainder, negation}
 use Rattle.fx_ops.specs.declared.operator.BinaryOp.{BinaryOp}
 use Rattle.fx_ops.specs.declared.operator.BinaryOp.TheVariants as op
-use Rattle.fx_types.specs.Ground.{Ground, g_bool, g_int, g_text, g_span, g_pattern}
+use Rattle.fx_types.specs.Ground.{Ground, g_array, g_bool, g_int, g_text, g_span, g_pattern}
 use Rattle.fx_types.specs.Kinds.{of_kind, IsAmong}
+use Rattle.fx_schemes.specs.Line.{IsKind}
 use Rattle.fx_infer.specs.Operators.{Infixed, Prefixed}
 use Rattle.fx_meaning.specs.Ends.{◌>>=◌, pure, answered}
-use Rattle.fx_meaning.specs.Forms.{flag_in, truth_in}
-use Rattle.fx_meaning.specs.Operators.{binary, of_cells, decides, exists, logic, joined, is_flag, is_known, match_text, matched, operate, opposite, prefixed}
-use Rattle.fx_meaning.specs.Value.{Val, cell, span}
-use Rattle.fx_build.specs.Fit.{fits, is_cell, SpanFits}
+use Rattle.fx_meaning.specs.Forms.{cell_in, flag_in, items_in, nth, truth_in}
+use Rattle.fx_meaning.specs.Operators.{indexed, item, item_or_fault, text_made, binary, of_cells, decides, exists, logic, joined, is_flag, is_known, match_text, matched, operate, opposite, prefixed}
+use Rattle.fx_meaning.specs.Value.{Val, cell, span, array, Vals, no_vals, more_vals}
+use Rattle.fx_build.specs.Fit.{each_fits, fits, is_cell, SpanFits}
 use Rattle.fx_build.specs.Safe.{IsSafe}
-use Rattle.fx_build.proofs.KindLaws.{Makes, cell_at_safe, of_cell, of_flag, of_int, of_text, of_span, of_pattern}
-use Rattle.fx_build.proofs.SafeLaws.{safe_then}
+use Rattle.fx_build.proofs.KindLaws.{Makes, cell_at_safe, of_cell, of_flag, of_array, of_int, of_text, of_span, of_pattern}
+use Rattle.fx_build.proofs.SafeLaws.{safe_later, safe_then}
 
 -- ---- the kinds of what operators make
 
@@ -286,3 +287,37 @@ prefixed_safe place sign.Plus v u t h fit = sign_cell place sign.Plus v u (plus_
 prefixed_safe place sign.Minus v u t h fit = sign_cell place sign.Minus v u (minus_int place v) (minus_spans place v) t h.0 h.1 fit
 prefixed_safe place sign.Not v u t h fit = only_bool u _ h.0 (λ is. rw h.1 (not_safe place v (subst (fits v) is fit)))
 prefixed_safe place sign.Exists v u t h fit = rw h.1 (exists_safe compared v u h.0 fit)
+
+-- ---- texts and items
+
+cell_among : (ks : List Kind) (v : Val) (u : Ground) → IsAmong ks false u → fits v u → IsSafe (λ a. Unit {0}) (cell_in v)
+cell_among [] v u h fit = absurd (false≢true h.0)
+cell_among (k ∷ ks) v u (inl is) fit = of_cell k v (λ x. IsSafe (λ a. Unit {0}) (cell_in x)) (subst (fits v) is fit) (λ a h. tt)
+cell_among (k ∷ ks) v u (inr h) fit = cell_among ks v u h fit
+
+-- what is put into a text is a scalar
+pub cell_in_safe : (v : Val) (u : Ground) → IsKind u → fits v u → IsSafe (λ a. Unit {0}) (cell_in v)
+cell_in_safe v u h fit = cell_among compared v u h fit
+
+pub text_safe : (place : Place) (made : Option (List ℕ)) → IsSafe (λ v. fits v g_text) (text_made place made)
+text_safe place (Some text) = cell_at_safe place kind.Text (limited text) (limited_makes text)
+text_safe place None = refl
+
+item_safe : (place : Place) (t : Ground) (vs : Vals) (n : ℕ) → each_fits vs t → IsSafe (λ v. fits v t) (answered place (item_or_fault (nth vs n)))
+item_safe place t no_vals n h = tt
+item_safe place t (more_vals v vs) zero h = h.0
+item_safe place t (more_vals v vs) (suc n) h = item_safe place t vs n h.1
+
+int_item_safe : (place : Place) (t : Ground) (vs : Vals) (n : ℤ) → each_fits vs t → IsSafe (λ v. fits v t) (answered place (item vs n))
+int_item_safe place t vs (pos n) h = item_safe place t vs n h
+int_item_safe place t vs (negsuc n) h = tt
+
+pub indexed_safe : (place : Place) (t : Ground) (v w : Val) → fits v (g_array t) → fits w g_int
+    → IsSafe (λ x. fits x t) (items_in v >>= (λ vs. cell_in w >>= indexed place vs))
+indexed_safe place t v w fit_v fit_w =
+    of_array t v (λ x. IsSafe (λ y. fits y t) (items_in x >>= (λ vs. cell_in w >>= indexed place vs))) fit_v
+    (λ vs each. of_cell kind.Int w (λ x. IsSafe (λ y. fits y t) (items_in (array vs) >>= (λ vs. cell_in x >>= indexed place vs))) fit_w
+    (λ a is. safe_later (λ y. fits y t) 0 (pure a >>= indexed place vs) (safe_later (λ y. fits y t) 0 (indexed place vs a) (index_safe vs each a is))))
+  where
+    index_safe : (vs : Vals) → each_fits vs t → (a : Scalar) → IsTrue (is_cell (Some kind.Int) a) → IsSafe (λ y. fits y t) (indexed place vs a)
+    index_safe vs each a is = of_int a (λ b. IsSafe (λ y. fits y t) (indexed place vs b)) is tt (λ n within. int_item_safe place t vs n each)
