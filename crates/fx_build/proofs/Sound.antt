@@ -73,7 +73,7 @@ module _ (test : Tests) (calls : Calls) (setting : Setting) (moment : IsTrue (in
 
   -- ---- literals
 
-  abbrev Made : Literal → End Val → (Need → Bool) → Type 0
+  abbrev pub Made : Literal → End Val → (Need → Bool) → Type 0
   Made (literal ps lets e) end needs =
       (end ≡ pure (closure ps lets e (keep (λ x. free_fun ps lets e (name_of x)) slots) setting)) × ((n : Need) → free_fun ps lets e n ≡ true → needs n ≡ true)
   Made no_literal end needs = Unit {0}
