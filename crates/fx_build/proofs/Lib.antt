@@ -1,0 +1,10 @@
+pub mod ArgLaws
+pub mod Entered
+pub mod KindLaws
+pub mod NameLaws
+pub mod OperatorLaws
+pub mod ParamLaws
+pub mod SafeLaws
+pub mod SlotLaws
+pub mod Sound
+pub mod WordLaws

@@ -1,0 +1,4 @@
+pub mod Bound
+pub mod Fit
+pub mod Safe
+pub mod Said

@@ -1,0 +1,2 @@
+//! Which values fit which types, and what the run of a script is.
+#![tactic(auto)]
