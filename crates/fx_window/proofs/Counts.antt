@@ -1,19 +1,17 @@
 -- How many windows lie between bounds, and how many tables a cut makes of them.
-use Rattle.std.proofs.Common.{◌≡◌, ℕ, zero, suc, ◌+◌, ◌-◌, ◌^◌, inl, inr, Bool, true, false, List, [], ◌∷◌, ◌++◌, map, length, ℤ, pos, ◌+ℤ◌, ◌*ℤ◌, ◌≤ℤ◌, FitsSigned, w64, refl, sym, ap, subst, ◌∙◌, arith}
-use Rattle.std.proofs.Math.IntN.{zero-*ℤ}
+use Rattle.std.proofs.Common.{◌≡◌, ℕ, zero, suc, ◌+◌, ◌-◌, ◌^◌, inl, inr, Bool, true, false, List, [], ◌∷◌, ◌++◌, map, length, ℤ, pos, ◌+ℤ◌, ◌≤ℤ◌, refl, sym, ap, subst, ◌∙◌, arith}
 use Rattle.std.proofs.lemmas.Int.{ints}
 use Rattle.std.proofs.lemmas.List.{append-nil, length-map}
-use Rattle.std.specs.Prelude.{◌<ℤ◌, ◌-ℤ◌, ◌&&◌, ◌||◌, neg_ℤ, cond, int_le, int_lt, Option, Some, None, if◌then◌else◌}
+use Rattle.std.specs.Prelude.{◌<ℤ◌, ◌-ℤ◌, ◌&&◌, ◌||◌, neg_ℤ, cond, int_le, int_lt, Option, Some, if◌then◌else◌}
 use Rattle.std.specs.Cmp.{eq_by_cmp_equiv}
 use Rattle.std.specs.FinMap as fin
 use Rattle.std.specs.Int.{int_gap, int_min, int_max}
 use Rattle.std.specs.List.{flat_map, AllByRecursion}
 use Rattle.std.specs.Option.{is_some, unwrap_or}
 use Rattle.std.specs.Ordering.{eq_by_cmp}
-use Rattle.fx_time.specs.Months.{month_start}
-use Rattle.fx_time.specs.Windows.{IsWindow, has_months, window_start, window_stop, last_started, last_stopped, IsLeast}
+use Rattle.fx_time.specs.Windows.{IsWindow, window_start, window_stop, last_started, last_stopped, IsLeast}
 use Rattle.fx_time.specs.declared.span.Span.{Span}
-use Rattle.fx_time.proofs.TestLemmas.{int_tells, lt_holds, lt_fails}
+use Rattle.fx_time.proofs.TestLemmas.{int_tells}
 use Rattle.fx_time.proofs.WindowLemmas.{stop_next}
 use Rattle.fx_value.specs.Ends.{Gives}
 use Rattle.fx_value.proofs.Loops.{told_then}

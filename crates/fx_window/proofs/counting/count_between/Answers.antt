@@ -1,4 +1,4 @@
-use Rattle.std.proofs.Common.{◌≡◌, ◌-◌, ◌^◌, ◌≤ℤ◌, List, length, ℤ, pos, ◌-ℤ◌, FitsSigned, w64, sym, ap, ◌∙◌, arith, rules}
+use Rattle.std.proofs.Common.{◌-◌, ◌^◌, ◌≤ℤ◌, List, length, ℤ, pos, ◌-ℤ◌, FitsSigned, w64, sym, ap, ◌∙◌, arith, rules}
 use Rattle.std.proofs.lemmas.Int.{ints, to_z-of_z}
 use Rattle.std.specs.Int.{w128, int_gap}
 use Rattle.std.specs.Prelude.{neg_ℤ}

@@ -1,10 +1,10 @@
-use Rattle.std.proofs.Common.{◌≡◌, Bool, true, false, List, [], length, pos, FitsSigned, w64, refl, sym, ap, subst, ◌∙◌, rules}
+use Rattle.std.proofs.Common.{◌≡◌, Bool, true, false, List, [], length, pos, refl, sym, ap, subst, ◌∙◌, rules}
 use Rattle.std.specs.List.{AllByRecursion}
 use Rattle.std.specs.Prelude.{None, Some}
 use Rattle.fx_data.specs.Table.{HasKey}
 use Rattle.fx_group.specs.Answer.{Row}
 use Rattle.fx_value.specs.Ends.{Gives}
-use Rattle.fx_window.specs.Cut.{bounds_of, cut_of, cut_by, cut_size, windows_of}
+use Rattle.fx_window.specs.Cut.{bounds_of, cut_of, windows_of}
 use Rattle.fx_window.specs.Plain.{placed_all}
 use Rattle.fx_window.specs.declared.cutting.CutTable.{CutTable}
 use Rattle.fx_window.specs.declared.standing.Placed.{Placed}
