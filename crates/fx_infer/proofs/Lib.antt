@@ -2,6 +2,7 @@ pub mod AskingLaws
 pub mod CallLaws
 pub mod FreshLaws
 pub mod InfersLaws
+pub mod ListLaws
 pub mod RuleLaws
 pub mod ScriptLaws
 pub mod SeenLaws
