@@ -1,7 +1,10 @@
+pub mod Applied
 pub mod ArgLaws
+pub mod Callable
 pub mod Entered
 pub mod KindLaws
 pub mod NameLaws
+pub mod NativeLaws
 pub mod OperatorLaws
 pub mod ParamLaws
 pub mod SafeLaws

@@ -53,7 +53,7 @@ Obeys v (package_is path) = (p : Package) × (path_of p ≡ path) × (v ≡ in_p
 -- ---- built-ins
 
 -- a truth, or a function that takes something
-abbrev IsBuilt : Builtin → Type 0
+abbrev pub IsBuilt : Builtin → Type 0
 IsBuilt x =
     ((c : Bool) × (built_of x ≡ built.Truth c) × ((w : Given) (L : Line) → IsLine x w L → L.type ≡ g_bool))
     ⊎ ((g : Native) × (built_of x ≡ built.Function g) × (native_builtin g ≡ x) × ((s : Signature) × (signature_of x ≡ Some s)))

@@ -12,7 +12,8 @@ use Rattle.fx_ast.specs.Tree.{Tree, Params, no_params, more_params, Default, req
 use Rattle.fx_meaning.specs.Meaning.{all_given, are_params, has_argument, is_param, pipe_of, takes}
 use Rattle.fx_meaning.specs.Value.{Val, Slots, no_slots, more_slots, look, is_there, or_else}
 use Rattle.fx_infer.specs.Arguments.{Takes, TakesAll, TakesByLabel}
-use Rattle.fx_infer.specs.Parameters.{field_if, first, input_of, is_optional, is_required, piped}
+use Rattle.fx_schemes.specs.Builtins.{differ}
+use Rattle.fx_infer.specs.Parameters.{param_names, field_if, first, input_of, is_optional, is_required, piped}
 use Rattle.fx_build.specs.Fit.{fits, with_input}
 use Rattle.fx_build.proofs.ArgLaws.{GivenFits}
 use Rattle.fx_build.proofs.SlotLaws.{same_itself}
@@ -157,6 +158,56 @@ pipe_is no_params = refl
 pipe_is (more_params x required ps) = pipe_is ps
 pipe_is (more_params x by_pipe ps) = refl
 pipe_is (more_params x (by_value e) ps) = pipe_is ps
+
+-- the pipe's parameter is no other one
+
+parts_of : (c d : Bool) → (if c then false else d) ≡ true → (c ≡ false) × (d ≡ true)
+parts_of true d h = absurd (false≢true h)
+parts_of false d h = (refl, h)
+
+neither_of : (c d : Bool) → (if c then true else d) ≡ false → (c ≡ false) × (d ≡ false)
+neither_of true d h = absurd (true≢false h)
+neither_of false d h = (refl, h)
+
+one_more : (d : Default) (x y : Label) (ps : Params) → same_text x y ≡ false → (is_required x ps ≡ false) × (is_optional x ps ≡ false)
+    → (is_required x (more_params y d ps) ≡ false) × (is_optional x (more_params y d ps) ≡ false)
+one_more required x y ps other rest = (ap (λ c. c || is_required x ps) other ∙ rest.0, rest.1)
+one_more by_pipe x y ps other rest = rest
+one_more (by_value e) x y ps other rest = (rest.0, ap (λ c. c || is_optional x ps) other ∙ rest.1)
+
+not_among : (x : Label) (ps : Params) → listed x (param_names ps) ≡ false → (is_required x ps ≡ false) × (is_optional x ps ≡ false)
+not_among x no_params h = (refl, refl)
+not_among x (more_params y d ps) h = let k = neither_of (same_text x y) (listed x (param_names ps)) h in one_more d x y ps k.0 (not_among x ps k.1)
+
+listed_later : (x y : Label) (xs : List Label) → listed x xs ≡ true → listed x (y ∷ xs) ≡ true
+listed_later x y xs h = later_one (same_text x y) h
+  where
+    later_one : (c : Bool) → listed x xs ≡ true → (if c then true else listed x xs) ≡ true
+    later_one true h = refl
+    later_one false h = h
+
+piped_listed : (x : Label) (ps : Params) → first (piped ps) ≡ Some x → listed x (param_names ps) ≡ true
+piped_listed x no_params h = absurd cc
+piped_listed x (more_params y required ps) h = listed_later x y (param_names ps) (piped_listed x ps h)
+piped_listed x (more_params y by_pipe ps) h = ap (λ c. if c then true else listed x (param_names ps)) (itself x y (let same : y ≡ x = cc in sym same))
+piped_listed x (more_params y (by_value e) ps) h = listed_later x y (param_names ps) (piped_listed x ps h)
+
+other_label : (x y : Label) (xs : List Label) → listed x xs ≡ true → listed y xs ≡ false → same_text x y ≡ false
+other_label x y xs h k = by_cases (same_text x y) (λ e. absurd (true≢false (sym h ∙ ap (λ z. listed z xs) (equal_text x y (sym e)) ∙ k))) (λ e. e)
+
+pub pipe_apart : (x : Label) (ps : Params) → differ (param_names ps) ≡ true → first (piped ps) ≡ Some x → (is_required x ps ≡ false) × (is_optional x ps ≡ false)
+pipe_apart x no_params once h = absurd cc
+pipe_apart x (more_params y required ps) once h =
+    let k = parts_of (listed y (param_names ps)) (differ (param_names ps)) once in
+    let rest = pipe_apart x ps k.1 h in
+    (ap (λ c. c || is_required x ps) (other_label x y (param_names ps) (piped_listed x ps h) k.0) ∙ rest.0, rest.1)
+pipe_apart x (more_params y by_pipe ps) once h =
+    let same : y ≡ x = cc in
+    not_among x ps (subst (λ z. listed z (param_names ps) ≡ false) same (parts_of (listed y (param_names ps)) (differ (param_names ps)) once).0)
+pipe_apart x (more_params y (by_value e) ps) once h =
+    let k = parts_of (listed y (param_names ps)) (differ (param_names ps)) once in
+    let rest = pipe_apart x ps k.1 h in
+    (rest.0, ap (λ c. c || is_optional x ps) (other_label x y (param_names ps) (piped_listed x ps h) k.0) ∙ rest.1)
 
 -- what is no parameter is required nowhere, allowed nowhere, and isn't the pipe's
 
