@@ -34,10 +34,13 @@ use Rattle.fx_meaning.specs.Value.{Label, Val, cell, array, stream, shown, Vals,
 abbrev pub convert_call : Place → Kind → Scalar → End Val
 convert_call place k a = if is_convertible k a then cell_at place (converted k a) else Stuck
 
--- an element that isn't null is the value; null is in no array, and nothing is known of null
+-- whether an element is the value; null is none, and nothing is known of null
+abbrev pub has_equal : Scalar → List Scalar → Bool
+has_equal value items = list_any (λ a. is_eq (scalar_cmp value a)) items
+
 abbrev pub is_in : Scalar → List Scalar → Scalar
 is_in scalar.Null items = scalar.Null
-is_in value items = scalar.Bool (list_any (λ a. is_eq (scalar_cmp value a)) items)
+is_in value items = scalar.Bool (has_equal value items)
 
 abbrev pub contains : Scalar → List Scalar → End Val
 contains value items = if list_all (λ a. is_like (kind_of value) a) items then pure (cell (is_in value items)) else Stuck
@@ -46,20 +49,26 @@ abbrev pub texts_made : List (List ℕ) → Vals
 texts_made [] = no_vals
 texts_made (t ∷ ts) = more_vals (cell (scalar.Text t)) (texts_made ts)
 
+abbrev pub texts_array : List (List ℕ) → End Val
+texts_array ts = pure (array (texts_made ts))
+
+abbrev pub no_items : End Val
+no_items = pure (array no_vals)
+
 abbrev pub split_parts : Place → List ℕ → List ℕ → End Val
 split_parts place text by = do
   ts ← answered place (all_limited (parts by text))
-  pure (array (texts_made ts))
+  texts_array ts
 
 -- an empty array where one is null
 abbrev pub split_by : Place → List ℕ → Scalar → End Val
 split_by place text (scalar.Text by) = split_parts place text by
-split_by place text scalar.Null = pure (array no_vals)
+split_by place text scalar.Null = no_items
 split_by place text _ = Stuck
 
 abbrev pub split_null : Scalar → End Val
-split_null (scalar.Text by) = pure (array no_vals)
-split_null scalar.Null = pure (array no_vals)
+split_null (scalar.Text by) = no_items
+split_null scalar.Null = no_items
 split_null _ = Stuck
 
 abbrev pub split : Place → Scalar → Scalar → End Val

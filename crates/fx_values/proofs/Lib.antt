@@ -1,4 +1,7 @@
+pub mod CountLaws
+pub mod EachLaws
 pub mod FormLaws
 pub mod ListLaws
 pub mod SpanLaws
+pub mod TextLaws
 pub mod ValueLaws

@@ -2,6 +2,7 @@
 #![tactic(auto, using(crate::proofs::ValueLaws::val_laws))]
 
 mod forms;
+mod natives;
 mod operators;
 mod stop;
 mod value;
@@ -9,6 +10,7 @@ mod value;
 pub use forms::{
     argument, cell_in, fields_in, flag_in, items_in, look, pattern_in, span_in, stream_in, truth_in,
 };
+pub use natives::{cell_of, cells_in, contains_of, convert_of, items_of, length_of, split_of};
 pub use operators::{binary_values, decides, logic, prefixed};
 pub use stop::Stop;
 pub use value::{Closure, Shown, Slot, StreamCall, Value};
