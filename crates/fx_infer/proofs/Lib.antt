@@ -8,4 +8,5 @@ pub mod ScriptLaws
 pub mod SeenLaws
 pub mod TypingLaws
 pub mod UseLaws
+pub mod WordLaws
 pub mod Worked
