@@ -2,6 +2,7 @@ pub mod Applied
 pub mod ArgLaws
 pub mod Callable
 pub mod Entered
+pub mod FoldLaws
 pub mod KindLaws
 pub mod NameLaws
 pub mod NativeLaws

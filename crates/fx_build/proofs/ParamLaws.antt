@@ -161,7 +161,7 @@ pipe_is (more_params x (by_value e) ps) = pipe_is ps
 
 -- the pipe's parameter is no other one
 
-parts_of : (c d : Bool) → (if c then false else d) ≡ true → (c ≡ false) × (d ≡ true)
+pub parts_of : (c d : Bool) → (if c then false else d) ≡ true → (c ≡ false) × (d ≡ true)
 parts_of true d h = absurd (false≢true h)
 parts_of false d h = (refl, h)
 

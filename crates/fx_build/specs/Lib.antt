@@ -1,4 +1,5 @@
 pub mod Bound
 pub mod Fit
+pub mod Run
 pub mod Safe
 pub mod Said
