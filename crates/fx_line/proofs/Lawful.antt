@@ -19,11 +19,11 @@ use Rattle.fx_line.specs.Stored.{IsStorable, IsLawful}
 use Rattle.fx_line.proofs.Sorting.{sort_rises}
 
 -- numbers in their ranges
-fits_int : (n : ℤ) → is_int n ≡ true → FitsSigned w64 n
+pub fits_int : (n : ℤ) → is_int n ≡ true → FitsSigned w64 n
 fits_int (pos k) h = record { sfits = omega (arith, leb-true k (2 ^ 63 - 1) h) }
 fits_int (negsuc k) h = record { sfits = omega (arith, leb-true k (2 ^ 63 - 1) (and_parts (leb k (2 ^ 63 - 1)) true h).0) }
 
-fits_time : (n : ℤ) → is_time n ≡ true → FitsSigned w64 n
+pub fits_time : (n : ℤ) → is_time n ≡ true → FitsSigned w64 n
 fits_time (pos k) h = record { sfits = omega (arith, leb-true k (2 ^ 63 - 2) h) }
 fits_time (negsuc k) h = record { sfits = omega (arith, leb-true k (2 ^ 63 - 3) (and_parts (leb k (2 ^ 63 - 3)) true h).0) }
 

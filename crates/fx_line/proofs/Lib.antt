@@ -1,9 +1,12 @@
 pub mod Collecting
+pub mod IntTexts
 pub mod Keys
 pub mod Lawful
 pub mod Numbers
 pub mod OneAnswer
 pub mod Pairs
+pub mod PieceLaw
+pub mod Refilled
 pub mod Sorting
 pub mod Spelled
 pub mod TextParts

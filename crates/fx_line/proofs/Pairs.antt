@@ -149,7 +149,7 @@ value_found s key bytes p r e =
       | false ↦ λ h same. absurd (none-some (p, r) same)
     ] refl e
 
-skip_found : (b : ℕ) (bytes rest : List ℕ) → skip b bytes ≡ Some rest → bytes ≡ b ∷ rest
+pub skip_found : (b : ℕ) (bytes rest : List ℕ) → skip b bytes ≡ Some rest → bytes ≡ b ∷ rest
 skip_found b [] rest e = absurd (cc e)
 skip_found b (c ∷ bytes) rest e =
     elim (eqb c b) as (λ t. eqb c b ≡ t → cond t (Some bytes) None ≡ Some rest → c ∷ bytes ≡ b ∷ rest) [

@@ -47,7 +47,7 @@ fn with_sign(stamp: &[u8], nanos: i128) -> i128
 }
 
 /// The time of a timestamp, where it is one of a point.
-fn stamp_time(stamp: &[u8], mode: LineMode) -> Option<i64>
+pub fn stamp_time(stamp: &[u8], mode: LineMode) -> Option<i64>
     requires { IsTrue (is_factor mode.factor) }
     ensures exact { IfSome result (λ t. t ≡ time_of mode (Some stamp.now)) }
     ensures fits { is_some result ≡ is_time (time_of mode (Some stamp.now)) }

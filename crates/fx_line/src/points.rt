@@ -8,7 +8,7 @@ ghost use Rattle.fx_line.specs.Collected.{IsTextPair, AreCollected, IsCollected}
 use crate::line::LineRead;
 use crate::number::to_int;
 use crate::pair::PairBytes;
-use crate::point::{Point, SeriesKey, Tag};
+use crate::point::{Point, SeriesKey, Tag, copied_tags};
 use crate::value::{is_float, is_integer, is_text, is_true};
 use crate::word::Word;
 use fx_base::{List, Memory, Text};
@@ -37,25 +37,6 @@ pub fn tags_said(alloc: Global, tags: &[PairBytes<'_>]) -> Result<Vec<Tag>, Memo
         said.push(tag_said(alloc, tag)?)?;
     }
     Ok(said)
-}
-
-fn copied_tag(tag: &Tag) -> Result<Tag, Memory>
-    ensures { IfOk result (λ t. t ≡ tag.now) }
-{
-    Ok(Tag {
-        key: tag.key.copy()?,
-        value: tag.value.copy()?,
-    })
-}
-
-fn copied_tags(alloc: Global, tags: &[Tag]) -> Result<List<Tag>, Memory>
-    ensures { IfOk result (λ l. l ≡ tags.now) }
-{
-    let mut copies = List::of(Vec::with_capacity(alloc, tags.len())?);
-    for tag in tags {
-        copies.push(copied_tag(tag)?)?;
-    }
-    Ok(copies)
 }
 
 /// What stands between the quotes of a text.

@@ -1,8 +1,9 @@
 -- What a put into the series says of the stored points.
-use Rattle.std.proofs.Common.{◌≡◌, ℕ, zero, suc, ◌+◌, ◌≤◌, ℤ, Bool, true, false, ◌||◌, ◌⊎◌, ⊎_elim, not, if◌then◌else◌, filter, Option, None, List, [], ◌∷◌, ◌++◌, map, length, Some, Result, Ok, Err, slice_get, All, refl, sym, ap, subst, ◌∙◌, length-append, arith}
-use Rattle.std.specs.List.{list_any}
-use Rattle.std.proofs.lemmas.Bool.{cond-true, cond-false}
-use Rattle.std.proofs.lemmas.List.Elements.{All-nil, All-head, All-push, All-weaker, All-same}
+use Rattle.std.proofs.Common.{◌≡◌, ℕ, zero, suc, ◌+◌, ◌≤◌, ℤ, Bool, true, false, ◌||◌, ◌⊎◌, ⊎_elim, inr, not, if◌then◌else◌, filter, Option, None, List, [], ◌∷◌, ◌++◌, map, length, Some, Result, Ok, Err, slice_get, option_map, All, refl, sym, ap, subst, ◌∙◌, length-append, arith}
+use Rattle.std.specs.List.{list_any, IsDistinct}
+use Rattle.std.proofs.lemmas.Bool.{and_left, or_right, cond-true, cond-false, false≢true}
+use Rattle.std.proofs.lemmas.Option.{slice_get-map}
+use Rattle.std.proofs.lemmas.List.Elements.{All-nil, All-head, All-tail, All-push, All-weaker, All-same}
 use Rattle.fx_value.specs.declared.scalar.Kind.{Kind}
 use Rattle.fx_value.specs.declared.scalar.Scalar.{Scalar}
 use Rattle.fx_value.specs.Scalar.{kind_of}
@@ -11,10 +12,10 @@ use Rattle.fx_line.specs.Stored.{IsLawful, StoredPoint, SeriesId, same_name, sam
 use Rattle.fx_series.specs.declared.fault.PutFault.{PutFault}
 use Rattle.fx_series.specs.declared.fault.PutFault.TheVariants as fault
 use Rattle.fx_series.specs.Store.{Kept, StandsFor, is_added, AreOfOneKind}
-use Rattle.fx_series.specs.Put.{Agrees, Conflicts, Answers}
+use Rattle.fx_series.specs.Put.{Agrees, Conflicts, Answers, HasPut, point_at}
 use Rattle.fx_series.specs.Held.{after_put, is_seen, kind_at, Refuses, SeriesAnswers}
-use Rattle.fx_series.proofs.Same.{same_from, points_along}
-use Rattle.fx_series.proofs.Grouped.{any-first_seen, points-push_same, points-push_other, no_points, grouped-push}
+use Rattle.fx_series.proofs.Same.{same_from, same_itself, points_along}
+use Rattle.fx_series.proofs.Grouped.{any-first_seen, first_seen-distinct, points-push_same, points-push_other, no_points, grouped-push, ids-grouped}
 
 -- ---- the kind of a name
 seen_map : (id : SeriesId) (stored : List StoredPoint) (ids : List SeriesId) → is_seen id (map (series_of stored) ids) ≡ list_any (same_name id) ids
@@ -169,3 +170,52 @@ length-after_put id time value (s ∷ ss) = by (same_id id s.id) refl (length-af
     by : (t : Bool) → same_id id s.id ≡ t → length (after_put id time value ss) ≤ length ss + 1 → length (after_put id time value (s ∷ ss)) ≤ length (s ∷ ss) + 1
     by true e h = subst (λ l. length l ≤ length (s ∷ ss) + 1) (sym (cond-true (same_id id s.id) _ _ e)) (omega arith)
     by false e h = subst (λ l. length l ≤ length (s ∷ ss) + 1) (sym (cond-false (same_id id s.id) _ _ e)) (omega arith)
+
+-- ---- a put by number
+-- the kind of a point of a series is the one that all points of the name have
+abbrev OfKind : Option Kind → List Point → Type 0
+OfKind kind points = All (λ p. kind_of p.value ≡ kind) points
+
+kind_by : (id : SeriesId) (kind : Option Kind) (s : StoredPoint) (rest : List StoredPoint) (t u : Bool) → same_name id (id_of s) ≡ t → same_id id (id_of s) ≡ u
+    → (OfKind kind (points_named id rest) → list_any (same_id id) (map id_of rest) ≡ true → id.kind ≡ kind)
+    → OfKind kind (points_named id (s ∷ rest)) → list_any (same_id id) (map id_of (s ∷ rest)) ≡ true → id.kind ≡ kind
+kind_by id kind s rest true true e f later all seen =
+    let here = subst (λ l. OfKind kind (map (λ s. s.point) l)) (cond-true (named id s) (s ∷ filter (named id) rest) (filter (named id) rest) e) all in
+    ap (λ i. i.kind) (same_from id (id_of s) f) ∙ All-head (λ p. kind_of p.value ≡ kind) s.point (points_named id rest) here
+kind_by id kind s rest true false e f later all seen =
+    let here = subst (λ l. OfKind kind (map (λ s. s.point) l)) (cond-true (named id s) (s ∷ filter (named id) rest) (filter (named id) rest) e) all in
+    later (All-tail (λ p. kind_of p.value ≡ kind) s.point (points_named id rest) here) (sym (ap (λ t. t || list_any (same_id id) (map id_of rest)) f) ∙ seen)
+kind_by id kind s rest false u e f later all seen =
+    let here = subst (λ l. OfKind kind (map (λ s. s.point) l)) (cond-false (named id s) (s ∷ filter (named id) rest) (filter (named id) rest) e) all in
+    later here (sym (ap (λ t. t || list_any (same_id id) (map id_of rest)) (and_left (same_name id (id_of s)) _ e)) ∙ seen)
+
+kind_among : (id : SeriesId) (kind : Option Kind) (stored : List StoredPoint) → OfKind kind (points_named id stored) → list_any (same_id id) (map id_of stored) ≡ true → id.kind ≡ kind
+kind_among id kind [] all seen = absurd (false≢true seen)
+kind_among id kind (s ∷ rest) all seen = kind_by id kind s rest (same_name id (id_of s)) (same_id id (id_of s)) refl refl (kind_among id kind rest) all seen
+
+listed : (ids : List SeriesId) (number : ℕ) (id : SeriesId) → slice_get ids number ≡ Some id → list_any (same_id id) ids ≡ true
+listed [] number id h = cc
+listed (k ∷ rest) zero id h = let same : k ≡ id = cc in ap (λ t. t || list_any (same_id id) rest) (subst (λ i. same_id id i ≡ true) (sym same) (same_itself id))
+listed (k ∷ rest) (suc number) id h = or_right (same_id id k) _ (listed rest number id h)
+
+pub kind_there : (stored : List StoredPoint) (number : ℕ) (s : Series) → AreOfOneKind stored → slice_get (grouped stored) number ≡ Some s → kind_at s.id (grouped stored) ≡ s.id.kind
+kind_there stored number s one at =
+    let id : slice_get (first_seen (map id_of stored)) number ≡ Some s.id = sym (ap (λ l. slice_get l number) (ids-grouped stored)) ∙ slice_get-map (λ t. t.id) (grouped stored) number ∙ ap (option_map (λ t. t.id)) at in
+    let there = sym (any-first_seen (same_id s.id) (map id_of stored)) ∙ listed (first_seen (map id_of stored)) number s.id id in
+    kind_is s.id stored ∙ sym (kind_among s.id (kind_of_points (points_named s.id stored)) stored (one s.id) there)
+
+module _ (kept : Kept) (buckets : List (List ℕ)) (stored : List StoredPoint) (stands : StandsFor kept buckets stored) where
+  pub ids_differ : IsDistinct same_id (map (λ t. t.id) kept.series)
+  ids_differ = subst (IsDistinct same_id) (sym (ap (map (λ t. t.id)) stands.series_are ∙ ids-grouped stored)) (first_seen-distinct (map id_of stored))
+
+  pub put_by_number : (number : ℕ) (s : Series) (time time' : ℤ) (value : Scalar) (series : List Series) → slice_get kept.series number ≡ Some s → is_added kept.buckets s.id.bucket ≡ true → IsLawful (point_at s.id.key time value) → s.id.kind ≡ kind_of value
+      → time' ≡ time → series ≡ after_put s.id time' value kept.series → HasPut buckets stored s.id.bucket (point_at s.id.key time value) (record { buckets = kept.buckets; series = series; puts = kept.puts + 1 })
+  put_by_number number s time time' value series at added lawful kind when put =
+      let p : StoredPoint = record { bucket = s.id.bucket; point = point_at s.id.key time value } in
+      let same : s.id ≡ id_of p = λ i. record { bucket = s.id.bucket; key = s.id.key; kind = kind i } in
+      let found : kind_at s.id kept.series ≡ s.id.kind = subst (λ l. slice_get l number ≡ Some s → kind_at s.id l ≡ s.id.kind) (sym stands.series_are) (kind_there stored number s stands.one_kind) at in
+      let answer : SeriesAnswers kept.series (id_of p) (Ok tt) = inr (subst (λ i. kind_at i kept.series ≡ i.kind) same found) in
+      record {
+        agrees = (answers-put kept buckets stored p stands added (Ok tt) answer).1;
+        stands = stands-after kept buckets stored p stands added s.id.bucket refl time' series when lawful (put ∙ ap (λ i. after_put i time' value kept.series) same) answer;
+      }

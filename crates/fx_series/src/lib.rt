@@ -9,6 +9,7 @@ mod series;
 mod series_map;
 mod store;
 
+pub use block::Block;
 pub use fault::PutFault;
 pub use laws::{
     last_point_stands, series_differ, times_rise, unknown_buckets_are_empty, values_are_of_the_kind,

@@ -68,6 +68,15 @@ impl Held {
         Ok(())
     }
 
+    /// Puts a value, which takes the place of one at its time.
+    pub(crate) fn put_value(&mut self, time: i64, value: Scalar) -> Result<(), Memory>
+        ensures kind { self.new.kind ≡ self.old.kind }
+        ensures ok { OnOk result (self.new.values ≡ insert_entry int_cmp self.old.values time value) }
+        ensures err { OnErr result (self.new.values ≡ self.old.values) }
+    {
+        self.values.put(time, value)
+    }
+
     /// The values with `first <= time <= last`, by rising time.
     pub(crate) fn read<L: Ledger>(
         &self,

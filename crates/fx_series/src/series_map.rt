@@ -1,10 +1,13 @@
-ghost use Rattle.std.specs.Prelude.{◌≡◌, ◌^◌, ◌<◌, ◌≤◌, ◌+◌, [], Some, IsSome, IfOk, OnOk, OnErr, length, slice_get};
+ghost use Rattle.std.specs.Prelude.{◌≡◌, ◌^◌, ◌<◌, ◌≤◌, ◌+◌, [], Some, IsSome, IfOk, IfSome, OnOk, OnErr, length, map, slice_get};
+ghost use Rattle.std.specs.List.{IsDistinct, AllByRecursion};
 ghost use Rattle.std.specs.Option.{option_map};
 ghost use Rattle.fx_value.specs.Scalar.{kind_of};
-ghost use Rattle.fx_line.specs.Stored.{Series};
+ghost use Rattle.fx_line.specs.Stored.{Series, same_id};
 ghost use Rattle.fx_series.specs.Held.{id_of_key, shown, after_put, SeriesAnswers};
+ghost use Rattle.fx_series.specs.Blocks.{entries_in, IsBlock};
 ghost use Rattle.fx_series.specs.Read.{places, is_in, between, pairs};
 
+use crate::block::Block;
 use crate::fault::PutFault;
 use crate::series::{Held, StoredKey, TimeValue};
 use fx_base::{List, Memory, Steps, Text};
@@ -68,6 +71,31 @@ impl SeriesMap {
         }
     }
 
+    /// Puts a value into the series with a number.
+    pub(crate) fn put_at(&mut self, number: u32, time: i64, value: Scalar) -> Result<(), Memory>
+        requires { number < length self.old }
+        ensures ok { (s : Series) → slice_get self.old number ≡ Some s → IsDistinct same_id (map (λ t. t.id) self.old) → OnOk result (self.new ≡ after_put s.id time value self.old) }
+        ensures err { OnErr result (self.new ≡ self.old) }
+        ensures many { length self.new ≡ length self.old }
+    {
+        let (_, held) = self.entries.pair_mut(number as usize);
+        held.put_value(time, value)
+    }
+
+    /// The number of the series with this name, where it is of this kind.
+    pub(crate) fn number_of(&self, key: &StoredKey, kind: Kind) -> Option<u32>
+        requires { length self.now < 2 ^ 32 }
+        ensures { IfSome result (λ n. slice_get (map (λ s. s.id) self.now) n ≡ Some (id_of_key key.now (Some kind))) }
+    {
+        let number = self.entries.get_index_of(key)?;
+        let (_, held) = self.entries.get_index(number)?;
+        if held.kind == kind {
+            Some(number as u32)
+        } else {
+            None
+        }
+    }
+
     /// The name of the series with a number.
     pub(crate) fn name(&self, number: u32) -> Option<&StoredKey>
         ensures { option_map (λ k. k.now.key) result ≡ option_map (λ s. s.id.key) (slice_get self.now number) }
@@ -97,6 +125,17 @@ impl SeriesMap {
             number += 1;
         }
         Ok(numbers)
+    }
+
+    /// The blocks of the series with a number.
+    pub(crate) fn blocks(&self, number: u32) -> Option<&[Block]>
+        ensures joined { option_map (λ b. entries_in b.now) result ≡ option_map (λ s. s.values) (slice_get self.now number) }
+        ensures each { IfSome result (λ b. AllByRecursion IsBlock b.now) }
+    {
+        match self.entries.get_index(number as usize) {
+            Some((_, held)) => Some(held.values.as_slice()),
+            None => None,
+        }
     }
 
     /// The values of a series with `first <= time <= last`, by rising time.

@@ -1,17 +1,21 @@
-ghost use Rattle.std.specs.Prelude.{◌≡◌, ℕ, ◌+◌, ◌^◌, ◌<◌, ◌≤◌, ◌-◌, List, [], ◌∷◌, ◌++◌, length, map, filter, Some, All, slice_get, option_map, IfOk, OnOk, OnErr};
+ghost use Rattle.std.specs.Prelude.{◌≡◌, ℕ, ◌+◌, ◌^◌, ◌<◌, ◌≤◌, ◌-◌, List, [], ◌∷◌, ◌++◌, length, map, filter, Some, true, All, slice_get, option_map, IfOk, IfSome, OnOk, OnErr};
 ghost use Rattle.std.specs.Ordering.{nat_cmp};
+ghost use Rattle.std.specs.List.{AllByRecursion};
+ghost use Rattle.fx_value.specs.Scalar.{kind_of};
 ghost use Rattle.std.specs.List.Sorted.{IsStrictlySortedBy};
 ghost use Rattle.fx_line.specs.Stored.{StoredPoint, Series, IsLawful};
 ghost use Rattle.fx_series.specs.Store.{StandsFor, is_added, with_bucket};
-ghost use Rattle.fx_series.specs.Put.{Answers};
+ghost use Rattle.fx_series.specs.Put.{Answers, HasPut, point_at};
+ghost use Rattle.fx_series.specs.Blocks.{entries_in, IsBlock};
 ghost use Rattle.fx_series.specs.Read.{is_in, between, pairs};
 
+use crate::block::Block;
 use crate::fault::PutFault;
 use crate::series::{StoredKey, TimeValue};
 use crate::series_map::SeriesMap;
 use fx_base::{List, Memory, Steps, Text};
 use fx_line::{Point, SeriesKey};
-use fx_value::Kind;
+use fx_value::{Kind, Scalar};
 use indexmap::IndexSet;
 use std::alloc::Global;
 use std::marker::Model;
@@ -111,6 +115,44 @@ impl Store {
         self.series.put(key, time, value)?;
         self.puts += 1;
         Ok(())
+    }
+
+    /// Puts a value into the series with a number, whose kind the value has. It is a put of the point
+    /// that has the series' name.
+    pub fn put_at(&mut self, series: u32, time: i64, value: Scalar) -> Result<(), Memory>
+        requires room { self.old.puts < 4294967295 }
+        requires series { series < length self.old.series }
+        requires kind { (s : Series) → slice_get self.old.series series ≡ Some s → s.id.kind ≡ kind_of value }
+        ensures ok { (s : Series) (buckets : List (List ℕ)) (stored : List StoredPoint) → slice_get self.old.series series ≡ Some s → is_added self.old.buckets s.id.bucket ≡ true → IsLawful (point_at s.id.key time value) → StandsFor self.old buckets stored → OnOk result (HasPut buckets stored s.id.bucket (point_at s.id.key time value) self.new) }
+        ensures err { OnErr result (self.new ≡ self.old) }
+    {
+        self.series.put_at(series, time, value)?;
+        self.puts += 1;
+        Ok(())
+    }
+
+    /// The number of the series with this name in a bucket, where it is of this kind.
+    pub fn number_of(
+        &self,
+        alloc: Global,
+        bucket: &Text,
+        key: &SeriesKey,
+        kind: Kind,
+    ) -> Result<Option<u32>, Memory>
+        ensures { IfOk result (λ o. IfSome o (λ n. slice_get (map (λ s. s.id) self.now.series) n ≡ Some (record { bucket = bucket.now; key = key.now; kind = Some kind }))) }
+    {
+        let bucket = bucket.copy()?;
+        let key = key.copy(alloc)?;
+        let name = StoredKey { bucket, key };
+        Ok(self.series.number_of(&name, kind))
+    }
+
+    /// The blocks of the series with a number: its values by rising time, in blocks of 1 to 1,024.
+    pub fn blocks(&self, series: u32) -> Option<&[Block]>
+        ensures joined { option_map (λ b. entries_in b.now) result ≡ option_map (λ s. s.values) (slice_get self.now.series series) }
+        ensures each { IfSome result (λ b. AllByRecursion IsBlock b.now) }
+    {
+        self.series.blocks(series)
     }
 
     /// The numbers of a bucket's series of a kind, in the order in which their first points were put.

@@ -10,14 +10,14 @@ use Rattle.fx_line.specs.Stored.{StoredPoint}
 use Rattle.fx_series.specs.Store.{Kept, StandsFor}
 use Rattle.fx_top.specs.declared.command.Command.{Command}
 use Rattle.fx_top.specs.declared.query.Query.{Query}
-use Rattle.fx_top.specs.declared.load.LoadStop.{LoadStop}
-use Rattle.fx_top.specs.declared.load.LoadStop.TheVariants as load_stop
+use Rattle.fx_load.specs.declared.load.LoadStop.{LoadStop}
+use Rattle.fx_load.specs.declared.load.LoadStop.TheVariants as load_stop
 use Rattle.fx_top.specs.declared.outcome.Outcome.{Outcome}
 use Rattle.fx_top.specs.declared.outcome.Outcome.TheVariants as outcome
 use Rattle.fx_top.specs.declared.run.TheConstants.{MOST_FILE_BYTES}
-use Rattle.fx_top.specs.Bytes.{lines_of}
+use Rattle.fx_load.specs.Bytes.{lines_of}
 use Rattle.fx_top.specs.Command.{IsCommand}
-use Rattle.fx_top.specs.Load.{IsReady, Reads, FileLoads, StopsAt, IsCause}
+use Rattle.fx_load.specs.Load.{IsReady, Reads, FileLoads, StopsAt, IsCause}
 use Rattle.fx_top.specs.Run.{tables_of}
 use Rattle.fx_top.specs.Answer.{Answers, Asks, Causes, EndsAs, IsTold, IsLong, NamesFile, Reaches, Runs, Writes, yield_text}
 use Rattle.fx_base.specs.declared.fault.Fault.{Fault}

@@ -11,7 +11,7 @@ use Rattle.fx_top.specs.declared.run.TheConstants.{MOST_SCRIPT_BYTES, MOST_FILE_
 use Rattle.fx_top.specs.Command.{IsLoad, IsCommand}
 use Rattle.fx_top.specs.Syntax.{IsSyntax, IsScript, IsNotBuilt}
 use Rattle.fx_top.specs.Answer.{Answers, Asks, IsTold, IsLong, IsSettled, Reaches, Runs}
-use Rattle.fx_top.proofs.BytesLemmas.{same_cut}
+use Rattle.fx_load.proofs.BytesLemmas.{same_cut}
 use Rattle.fx_top.proofs.FileOnce.{FileEnds, file_ends, same_end}
 use Rattle.fx_top.proofs.ScriptOnce.{same_syntax, syntax_or_tree, same_script, script_or_not_built}
 

@@ -5,10 +5,10 @@ use Rattle.std.specs.List.{position_or_len, before_first, after_first}
 use Rattle.fx_base.specs.declared.memory.Memory.{Memory}
 use denote.Ref.{Bor}
 use Rattle.std.proofs.lemmas.Bool.{eqb-true}
-use Rattle.fx_top.specs.Bytes.{IsFreeOf}
+use Rattle.fx_load.specs.Bytes.{IsFreeOf}
 use Rattle.fx_top.specs.Command.{IsLoad, IsRun, IsCommand}
 use Rattle.fx_top.specs.declared.command.Command.{Command}
-use Rattle.fx_top.proofs.BytesLemmas.{first_parts, none_first, same_cut, not_cut}
+use Rattle.fx_load.proofs.BytesLemmas.{first_parts, none_first, same_cut, not_cut}
 
 -- what a cut at the first `=` tells of its parts
 pub cut_at : (word : List ℕ) (r : Option (Bor (List ℕ) × Bor (List ℕ)))

@@ -4,16 +4,16 @@ use Rattle.std.proofs.Common.{◌≡◌, ℕ, ◌⊎◌, inl, inr, List, [], ◌
 use Rattle.fx_base.specs.declared.fault.Fault.{Fault}
 use Rattle.fx_data.specs.declared.table.Table.{Table}
 use Rattle.fx_line.specs.Stored.{StoredPoint}
-use Rattle.fx_top.specs.declared.cause.LineCause.{LineCause}
+use Rattle.fx_load.specs.declared.cause.LineCause.{LineCause}
 use Rattle.fx_top.specs.declared.command.Command.{Command}
 use Rattle.fx_top.specs.declared.outcome.Outcome.{Outcome}
 use Rattle.fx_top.specs.declared.outcome.Outcome.TheVariants as outcome
 use Rattle.fx_top.specs.declared.query.Query.{Query}
-use Rattle.fx_top.specs.Bytes.{lines_of}
-use Rattle.fx_top.specs.Load.{Reads, StopsAt, IsCause, IsTooMany}
+use Rattle.fx_load.specs.Bytes.{lines_of}
+use Rattle.fx_load.specs.Load.{Reads, StopsAt, IsCause, IsTooMany}
 use Rattle.fx_top.specs.Run.{run_of}
 use Rattle.fx_top.specs.Answer.{EndsAs, IsSettled}
-use Rattle.fx_top.proofs.LoadOnce.{Stops, same_cause, cause_or_full, same_reads, stop_or_all, SameStop, same_stop}
+use Rattle.fx_load.proofs.LoadOnce.{Stops, same_cause, cause_or_full, same_reads, stop_or_all, SameStop, same_stop}
 
 -- the answer of a query that was run
 abbrev pub end_of : Result (List Table) Fault → Outcome

@@ -1,9 +1,6 @@
-pub mod BytesLemmas
 pub mod ColumnKinds
 pub mod CommandLemmas
 pub mod FileOnce
-pub mod LoadLemmas
-pub mod LoadOnce
 pub mod QueryLemmas
 pub mod ScriptOnce
 pub mod SourceLemmas

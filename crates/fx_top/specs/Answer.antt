@@ -10,10 +10,10 @@ use Rattle.fx_top.specs.declared.query.Query.{Query}
 use Rattle.fx_top.specs.declared.outcome.Outcome.{Outcome}
 use Rattle.fx_top.specs.declared.outcome.Outcome.TheVariants as outcome
 use Rattle.fx_top.specs.declared.run.TheConstants.{MOST_SCRIPT_BYTES, MOST_FILE_BYTES}
-use Rattle.fx_top.specs.Bytes.{lines_of}
+use Rattle.fx_load.specs.Bytes.{lines_of}
 use Rattle.fx_top.specs.Command.{IsCommand}
 use Rattle.fx_top.specs.Message.{line_of}
-use Rattle.fx_top.specs.Load.{Reads, StopsAt, IsCause, IsTooMany}
+use Rattle.fx_load.specs.Load.{Reads, StopsAt, IsCause, IsTooMany}
 use Rattle.fx_top.specs.Run.{run_of}
 use Rattle.fx_top.specs.Syntax.{IsScript, IsSyntax, IsNotBuilt}
 

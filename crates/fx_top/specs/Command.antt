@@ -1,8 +1,9 @@
 -- The form of a command line.
-use Rattle.std.specs.Prelude.{◌≡◌, ◌≢◌, ℕ, Bool, false, ◌&&◌, nat_lt, nat_eq, List, [], ◌∷◌, ◌++◌, length, codes}
+use Rattle.std.specs.Prelude.{◌≡◌, ◌≢◌, ℕ, ℤ, pos, Bool, false, ◌&&◌, nat_lt, nat_eq, List, [], ◌∷◌, ◌++◌, length, codes}
 use Rattle.std.specs.List.{starts_with}
+use Rattle.fx_line.specs.declared.line.LineMode.{LineMode}
 use Rattle.fx_top.specs.declared.command.Command.{Command}
-use Rattle.fx_top.specs.Bytes.{IsFreeOf}
+use Rattle.fx_load.specs.Bytes.{IsFreeOf}
 
 -- a word that begins with a hyphen and is longer than one byte; no such word exists yet
 abbrev pub is_option : List ℕ → Bool
@@ -28,3 +29,7 @@ pub record IsCommand (words : List (List ℕ)) (c : Command) : Type 0 where
   pub load : List ℕ
   pub spelled : words ≡ codes "run" ∷ script ∷ load ∷ []
   pub run : IsRun script load c
+
+-- lines of nanoseconds, where floats are refused and a missing time is the moment
+abbrev pub plain_mode : ℤ → LineMode
+plain_mode moment = record { factor = pos 1; moment = moment; skip_floats = false }

@@ -5,8 +5,8 @@ use Rattle.fx_base.specs.declared.fault.FaultKind.{FaultKind}
 use Rattle.fx_base.specs.declared.fault.FaultKind.TheVariants as fault
 use Rattle.fx_line.specs.declared.line.LineError.{LineError}
 use Rattle.fx_line.specs.declared.line.LineError.TheVariants as line
-use Rattle.fx_top.specs.declared.cause.LineCause.{LineCause}
-use Rattle.fx_top.specs.declared.cause.LineCause.TheVariants as cause
+use Rattle.fx_load.specs.declared.cause.LineCause.{LineCause}
+use Rattle.fx_load.specs.declared.cause.LineCause.TheVariants as cause
 use Rattle.fx_top.specs.declared.outcome.Outcome.{Outcome}
 use Rattle.fx_top.specs.declared.outcome.Outcome.TheVariants as outcome
 

@@ -9,8 +9,8 @@ use Rattle.fx_top.specs.declared.query.Query.{Query}
 use Rattle.fx_top.specs.declared.outcome.Outcome.{Outcome}
 use Rattle.fx_top.specs.declared.outcome.Outcome.TheVariants as outcome
 use Rattle.fx_series.specs.Store.{Kept, StandsFor}
-use Rattle.fx_top.specs.declared.load.LoadStop.{LoadStop}
-use Rattle.fx_top.specs.declared.load.LoadStop.TheVariants as load_stop
+use Rattle.fx_load.specs.declared.load.LoadStop.{LoadStop}
+use Rattle.fx_load.specs.declared.load.LoadStop.TheVariants as load_stop
 use Rattle.fx_top.specs.Answer.{IsTold, IsLong, yield_text}
 use Rattle.fx_top.specs.Run.{run_of}
 

@@ -1,5 +1,5 @@
 ghost use Rattle.std.specs.Prelude.{◌≡◌, ℕ, List, ◌∷◌, ◌++◌, IfNone, IfSome, IfOk, MatchOption};
-ghost use Rattle.fx_top.specs.Bytes.{IsFreeOf};
+ghost use Rattle.fx_load.specs.Bytes.{IsFreeOf};
 ghost use Rattle.fx_top.specs.Command.{IsCommand, IsLoad, IsRun, is_option};
 ghost use Rattle.fx_top.specs.declared.command.Command.{Command};
 

@@ -1,12 +1,9 @@
 //! The top call: a command line, files and a moment in, annotated CSV or a named refusal out.
 #![tactic(auto)]
 
-mod bytes;
-mod cause;
 mod command;
 mod labels;
 mod laws;
-mod load;
 mod main_call;
 mod message;
 mod outcome;
@@ -17,8 +14,8 @@ mod script;
 mod slices;
 mod source;
 
-pub use cause::LineCause;
 pub use command::Command;
+pub use fx_load::LineCause;
 pub use laws::answers_exclude_each_other;
 pub use main_call::flux_main;
 pub use message::tell;

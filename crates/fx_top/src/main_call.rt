@@ -1,7 +1,7 @@
 ghost use Rattle.std.specs.Prelude.{◌≡◌, ◌≢◌, ℕ, List, Option, Some};
 ghost use Rattle.fx_base.specs.Outside.{Told, Rose};
 ghost use Rattle.fx_top.specs.Answer.{Answers, Causes, Writes, NamesFile, IsSaid, IsSettled};
-ghost use Rattle.fx_top.specs.Load.{plain_mode};
+ghost use Rattle.fx_top.specs.Command.{plain_mode};
 ghost use Rattle.fx_top.specs.declared.outcome.Outcome.{Outcome as AnyOutcome};
 
 use crate::message::tell;

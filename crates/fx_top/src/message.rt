@@ -2,11 +2,11 @@ ghost use Rattle.std.specs.Prelude.{◌≡◌, ◌≢◌, ℕ, List, IfOk, ◌�
 ghost use Rattle.fx_base.specs.Outside.{appended, Rose};
 ghost use Rattle.fx_top.specs.Message.{line_of, cause_text, error_text, fault_text, syntax_text};
 
-use crate::cause::LineCause;
 use crate::outcome::Outcome;
 use crate::place::{column_at, line_at};
 use fx_base::{FaultKind, Memory, Sink, SinkFault};
 use fx_line::LineError;
+use fx_load::LineCause;
 use std::alloc::Global;
 
 /// Writes the outcome's line, which may show a place of the script. A fault of the sink changes no

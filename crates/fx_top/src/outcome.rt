@@ -1,8 +1,8 @@
 ghost use Rattle.std.specs.Prelude.{◌≡◌};
 ghost use Rattle.fx_top.specs.Message.{status_of};
 
-use crate::cause::LineCause;
 use fx_base::{Fault, Place, Text};
+use fx_load::LineCause;
 
 /// How a call of the program ends.
 #[derive(Debug, PartialEq, Eq, Drop)]

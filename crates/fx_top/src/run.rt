@@ -3,12 +3,12 @@ ghost use Rattle.fx_base.specs.Outside.{Told};
 ghost use Rattle.fx_line.specs.Line.{is_factor};
 ghost use Rattle.fx_line.specs.Stored.{StoredPoint};
 ghost use Rattle.fx_series.specs.Store.{StandsFor};
+ghost use Rattle.fx_load.specs.Load.{IsReady, FileLoads};
 ghost use Rattle.fx_top.specs.Command.{IsCommand};
 ghost use Rattle.fx_top.specs.Answer.{Answers, Asks, Causes, EndsAs, IsTold, Writes, NamesFile, Shows};
 ghost use Rattle.fx_top.specs.Stage.{FileAnswers, FileCauses, RunCauses, DataAnswers, StopAnswers, IsKept};
 
 use crate::command::{Command, read_words};
-use crate::load::{LoadStop, load_file};
 use crate::outcome::Outcome;
 use crate::query::Query;
 use crate::script::{ScriptStop, read_script};
@@ -16,6 +16,7 @@ use crate::source::query_tables;
 use fx_base::{Fault, FaultKind, FileFault, Files, Memory, Sink, SinkFault, Steps, Text};
 use fx_csv::write_yield;
 use fx_line::LineMode;
+use fx_load::{LoadStop, load_file};
 use fx_series::Store;
 use std::alloc::Global;
 use std::sync::ledger::Ledger;
@@ -133,7 +134,7 @@ fn run_query<F: Files, O: Sink, L: Ledger>(
     ensures names { (words : List (List ℕ)) → IsCommand words command.now → NamesFile words result }
 {
     match load(alloc, &command.file, MOST_FILE_BYTES, files) {
-        Ok(file) => run_over(alloc, command, mode, query, file.as_slice(), out, steps),
+        Ok(file) => run_over(alloc, command, mode, query, file, out, steps),
         Err(refusal) => refusal,
     }
 }
@@ -159,25 +160,41 @@ fn load<F: Files>(alloc: Global, name: &Text, limit: u64, files: &mut F) -> Resu
     }
 }
 
+/// Stores the points of a file's lines in a bucket, and lets the file's bytes go.
+fn load_lines(
+    alloc: Global,
+    file: Vec<u8>,
+    mode: LineMode,
+    bucket: &Text,
+    store: &mut Store,
+) -> Result<(), LoadStop>
+    requires bytes { length file.items ≤ MOST_FILE_BYTES }
+    requires factor { IsTrue (is_factor mode.factor) }
+    requires ready { IsReady store.old bucket.now }
+    ensures { (buckets : List (List ℕ)) (stored : List StoredPoint) → StandsFor store.old buckets stored → FileLoads mode buckets bucket.now file.items stored store.new result }
+{
+    load_file(alloc, file.as_slice(), mode, bucket, store)
+}
+
 /// Runs a query over the lines of a file.
 fn run_over<O: Sink, L: Ledger>(
     alloc: Global,
     command: &Command,
     mode: LineMode,
     query: &Query,
-    file: &[u8],
+    file: Vec<u8>,
     out: &mut O,
     steps: &mut Steps<L>,
 ) -> Outcome
-    requires bytes { length file.now ≤ MOST_FILE_BYTES }
+    requires bytes { length file.items ≤ MOST_FILE_BYTES }
     requires factor { IsTrue (is_factor mode.factor) }
-    ensures ends { EndsAs mode command.now query.now file.now (O.written out.old) (O.written out.new) result }
+    ensures ends { EndsAs mode command.now query.now file.items (O.written out.old) (O.written out.new) result }
     ensures causes { RunCauses (O.faults out.old) (O.faults out.new) result }
 {
     let Ok(mut store) = store_of(alloc, &command.bucket) else {
         return Outcome::Memory;
     };
-    match load_file(alloc, file, mode, &command.bucket, &mut store) {
+    match load_lines(alloc, file, mode, &command.bucket, &mut store) {
         Ok(()) => yield_query(alloc, query, &store, out, steps),
         Err(stop) => stop_outcome(stop, &command.file),
     }

@@ -2,7 +2,7 @@ use Rattle.std.proofs.Common.{◌≡◌, ℤ, subst, to_z, of_z, w64}
 use Rattle.std.proofs.lemmas.Int.{to_z-of_z}
 use Rattle.fx_top.specs.Answer.{Answers}
 use Rattle.fx_top.proofs.AnswerLemmas.{told_answers, told_writes}
-use Rattle.fx_top.specs.Load.{plain_mode}
+use Rattle.fx_top.specs.Command.{plain_mode}
 use Rattle.fx_top.proofs.AnswerOnce.{one_answer}
 use Rattle.fx_top.proofs.main_call.flux_main.Goals as goal
 

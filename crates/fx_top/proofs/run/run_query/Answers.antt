@@ -4,7 +4,7 @@ use Rattle.fx_top.proofs.AnswerLemmas.{ends_writes, file_answers, file_writes}
 use Rattle.fx_top.proofs.run.run_query.Goals as goal
 
 pub returns-in-Ok-clause-writes : goal.returns-in-Ok-clause-writes
-returns-in-Ok-clause-writes g c = ends_writes c.args.mode c.args.command.now c.args.query.now c.as_slice.result.now (g.O.Sink.written c.args.out.now) (g.O.Sink.written c.run_over.new.out) c.run_over.result c.run_over.ensures.ends
+returns-in-Ok-clause-writes g c = ends_writes c.args.mode c.args.command.now c.args.query.now c.in-Ok.file.items (g.O.Sink.written c.args.out.now) (g.O.Sink.written c.run_over.new.out) c.run_over.result c.run_over.ensures.ends
 
 pub returns-in-Err-clause-answers : goal.returns-in-Err-clause-answers
 returns-in-Err-clause-answers g c = λ told words tells asks.

@@ -1,0 +1,4 @@
+pub mod BytesLemmas
+pub mod KnownLemmas
+pub mod LoadLemmas
+pub mod LoadOnce
