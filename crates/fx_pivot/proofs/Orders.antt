@@ -1,5 +1,5 @@
 -- Cells in the order of their places.
-use Rattle.std.proofs.Common.{◌≡◌, ℕ, suc, zero, ◌+◌, ◌<◌, Bool, true, false, List, [], ◌∷◌, length, get_or, refl, sym, ap, subst, ◌∙◌, arith}
+use Rattle.std.proofs.Common.{◌≡◌, ℕ, suc, ◌+◌, ◌<◌, Bool, true, false, List, [], ◌∷◌, length, get_or, refl, sym, ap, subst, ◌∙◌, arith}
 use Rattle.std.proofs.lemmas.List.Sorted.{sorted_far}
 use Rattle.std.specs.Prelude.{not, ◌&&◌}
 use Rattle.std.specs.declared.cmp.Ordering.{Ordering}
@@ -11,7 +11,6 @@ use Rattle.std.specs.FinMap.{IsAntisymmetric, slice_cmp-IsAntisymmetric}
 use Rattle.std.specs.List.{filter}
 use Rattle.std.specs.List.Sorted.{IsSortedBy, IsStableBy, ties}
 use Rattle.fx_value.proofs.Scalars.{scalar_cmp_total, scalar_same}
-use Rattle.fx_value.specs.declared.scalar.Scalar.{Scalar}
 use Rattle.fx_pivot.specs.Cells.{values_cmp}
 use Rattle.fx_pivot.specs.Ordered.{NoneBelow, Ascend}
 use Rattle.fx_pivot.specs.declared.cell.Cell.{Cell}

@@ -1,7 +1,7 @@
 -- A pivot is what its tables make, regrouped; and the keys that it makes.
 use Rattle.std.proofs.Common.{◌≡◌, ◌≢◌, ℕ, Bool, true, false, List, [], ◌∷◌, ◌++◌, map, refl, sym, ap, subst, ◌∙◌}
 use Rattle.std.specs.FinMap as fin
-use Rattle.std.specs.Prelude.{Err, Option, Some, cond, if◌then◌else◌, codes}
+use Rattle.std.specs.Prelude.{Err, cond, if◌then◌else◌, codes}
 use Rattle.std.specs.List.{AllByRecursion, filter, join_by}
 use Rattle.std.specs.declared.cmp.Ordering.TheVariants.{Less}
 use Rattle.std.specs.List.Sorted.{IsStrictlySortedBy}
@@ -23,10 +23,9 @@ use Rattle.fx_group.proofs.Turned.{listed}
 use Rattle.fx_value.specs.Calls.{Told}
 use Rattle.fx_value.specs.Ends.{End, Gives, Stuck, and_then}
 use Rattle.fx_value.specs.Works.{flat_each, into}
-use Rattle.fx_value.specs.declared.scalar.Scalar.{Scalar}
 use Rattle.fx_value.proofs.Loops.{told_then, told_stops, told_unstuck}
-use Rattle.fx_pivot.specs.Cells.{text_of, texts_of, name_of, cells_of}
-use Rattle.fx_pivot.specs.Pivot.{are_apart, stays, base_key, based, collected, pinned_but, pivot_key, keyed, pivot_rows, pivoted_table, pivoted_tables, pivoted}
+use Rattle.fx_pivot.specs.Cells.{text_of, name_of, cells_of}
+use Rattle.fx_pivot.specs.Pivot.{are_apart, stays, based, collected, pinned_but, pivot_key, keyed, pivot_rows, pivoted_table, pivoted_tables, pivoted}
 use Rattle.fx_pivot.specs.declared.cell.Cell.{Cell}
 
 -- ---- names of one text

@@ -1,17 +1,15 @@
 -- For each place its names and values, as a map and as lines.
-use Rattle.std.proofs.Common.{◌≡◌, ℕ, Bool, true, false, T, List, [], ◌∷◌, ◌++◌, map, length, refl, sym, ap, subst, ◌∙◌, arith, append_assoc}
+use Rattle.std.proofs.Common.{◌≡◌, ℕ, Bool, true, false, List, [], ◌∷◌, ◌++◌, map, length, refl, sym, ap, subst, ◌∙◌, arith, append_assoc}
 use Rattle.std.proofs.lemmas.List.{append-nil, map-append, same_from_push}
-use Rattle.std.specs.Prelude.{cond, ◌||◌, Option, None, Some, codes}
+use Rattle.std.specs.Prelude.{cond, ◌||◌, Option, None, Some}
 use Rattle.std.specs.Option.{unwrap_or}
-use Rattle.std.specs.declared.cmp.Ordering.{Ordering}
-use Rattle.std.specs.declared.cmp.Ordering.TheVariants.{Less, Equal, Greater}
+use Rattle.std.specs.declared.cmp.Ordering.TheVariants.{Less, Equal}
 use Rattle.std.specs.Ordering.{is_lt, is_eq, eq_by_cmp}
 use Rattle.std.specs.Cmp.{Equal-is, eq_by_cmp_equiv}
 use Rattle.std.specs.List.{AllByRecursion, filter, list_any}
 use Rattle.std.specs.List.Sorted.{IsStrictlySortedBy}
 use Rattle.std.specs.FinMap as fin
-use Rattle.std.specs.FinMap.{FinMap}
-use Rattle.std.specs.FinMap.Entries.{find, put, by_order, is_sorted, below_all}
+use Rattle.std.specs.FinMap.Entries.{find, put, by_order}
 use Rattle.fx_data.proofs.Sorted.{keys_rise}
 use Rattle.fx_group.specs.Answer.{Row}
 use Rattle.fx_value.specs.declared.scalar.Scalar.{Scalar}

@@ -1,9 +1,9 @@
-use Rattle.std.proofs.Common.{◌≡◌, ◌≢◌, List, [], ◌∷◌, ◌++◌, sym, ap, subst, ◌∙◌, append_assoc, rules}
+use Rattle.std.proofs.Common.{◌≡◌, List, [], ◌∷◌, ◌++◌, sym, ap, subst, ◌∙◌, append_assoc, rules}
 use Rattle.std.specs.Prelude.{Err}
 use Rattle.fx_pivot.proofs.Gathers.{item_gives, item_unstuck}
 use Rattle.fx_group.specs.Answer.{Row}
 use Rattle.fx_value.specs.Calls.{Told}
-use Rattle.fx_value.specs.Ends.{End, Gives, Stuck, and_then}
+use Rattle.fx_value.specs.Ends.{End, Gives, and_then}
 use Rattle.fx_value.specs.Works.{into}
 use Rattle.fx_value.proofs.Loops.{told_then, told_unstuck}
 use Rattle.fx_pivot.specs.Cells.{cell_of, cells_of}

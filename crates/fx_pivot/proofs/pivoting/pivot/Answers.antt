@@ -2,10 +2,9 @@ use Rattle.std.proofs.Common.{◌≡◌, ◌≢◌, ◌∷◌, ℕ, List, sym, a
 use Rattle.std.specs.FinMap as fin
 use Rattle.std.specs.Prelude.{Err}
 use Rattle.fx_data.specs.declared.keyed_row.KeyedRow.{KeyedRow}
-use Rattle.fx_data.specs.declared.table.Table.{Table}
-use Rattle.fx_group.specs.Turned.{Groups, with_rows}
+use Rattle.fx_group.specs.Turned.{with_rows}
 use Rattle.fx_value.specs.Calls.{Told}
-use Rattle.fx_value.specs.Ends.{End, Gives, Stuck}
+use Rattle.fx_value.specs.Ends.{End, Stuck}
 use Rattle.fx_value.specs.Works.{into}
 use Rattle.fx_pivot.specs.Pivot.{collected, pivoted_tables, pivoted}
 use Rattle.fx_pivot.proofs.Pivoted.{pivot_unstuck, pivot_gives, pivot_stops}

@@ -1,4 +1,4 @@
-use Rattle.std.proofs.Common.{◌≡◌, List, [], ◌∷◌, ◌++◌, sym, ap, subst, ◌∙◌, arith}
+use Rattle.std.proofs.Common.{◌≡◌, List, [], ◌∷◌, sym, ap, subst, ◌∙◌, arith}
 use Rattle.std.specs.FinMap as fin
 use Rattle.fx_value.specs.declared.scalar.Scalar.{Scalar}
 use Rattle.fx_pivot.specs.Ordered.{Places, NoneBelow, Ascend, with_cell, with_all, lines_of}

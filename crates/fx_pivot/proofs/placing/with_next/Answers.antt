@@ -1,11 +1,10 @@
-use Rattle.std.proofs.Common.{◌≡◌, true, false, List, [], ◌∷◌, ◌++◌, sym, ap, subst, ◌∙◌, rules}
+use Rattle.std.proofs.Common.{◌≡◌, true, false, [], ◌∷◌, ◌++◌, sym, ap, ◌∙◌, rules}
 use Rattle.std.proofs.lemmas.List.{append-nil}
 use Rattle.std.proofs.lemmas.Result.{IfOk-weaker}
-use Rattle.std.specs.FinMap as fin
 use Rattle.std.specs.Ordering.{is_eq}
 use Rattle.std.specs.Cmp.{Equal-is}
 use Rattle.fx_pivot.specs.Cells.{values_cmp}
-use Rattle.fx_pivot.specs.Ordered.{LastIs, with_cell, line_of, lines_of}
+use Rattle.fx_pivot.specs.Ordered.{LastIs, with_cell, lines_of}
 use Rattle.fx_pivot.specs.declared.placing.Line.{Line}
 use Rattle.fx_pivot.proofs.Orders.{values_same}
 use Rattle.fx_pivot.proofs.Places.{same_line, next_line, first_line, last_pushed}
