@@ -33,7 +33,7 @@ use Rattle.fx_build.proofs.FoldLaws.{words_said}
 use Rattle.fx_build.proofs.NameLaws.{HasLine, IsBuilt, Obeys, is_built}
 use Rattle.fx_build.proofs.NativeLaws.{pipe_facts, pipe_label_is, said_push, says_nothing}
 use Rattle.fx_build.proofs.ParamLaws.{Suits, absent_suits, suits, takes_row}
-use Rattle.fx_build.proofs.SafeLaws.{safe_cut, safe_later}
+use Rattle.fx_build.proofs.SafeLaws.{safe_cut, safe_every, safe_later}
 use Rattle.fx_build.proofs.Sound.{tree_fits}
 
 -- a built-in by itself, called with the words of a line and with arguments for all else that it takes
@@ -205,3 +205,9 @@ module _ (test : Tests) (runs : (calls : Calls) (g : Native) → NativeRuns call
   expression_safe setting env slots e t limit met h =
       safe_cut (λ v. fits v t) limit (means test (nested test limit) setting e slots)
       (trees_fit (nested test limit) (nested_safe limit) setting met.0 env slots e t met.1 h)
+
+  -- and its value fits every type that it has
+  pub every_type_safe : (setting : Setting) (env : Env) (slots : Slots) (e : Tree) (t : Ground) (limit : ℕ) → Meets (free e) setting env slots → HasType env e t
+      → IsSafe (λ v. (u : Ground) → HasType env e u → fits v u) (meaning test setting e slots limit)
+  every_type_safe setting env slots e t limit met h =
+      safe_every (HasType env e) (λ u v. fits v u) (meaning test setting e slots limit) (λ u k. expression_safe setting env slots e u limit met k) t h

@@ -13,3 +13,4 @@ pub mod SafeLaws
 pub mod SlotLaws
 pub mod Sound
 pub mod WordLaws
+pub mod Worked
