@@ -29,10 +29,11 @@ use Rattle.fx_build.specs.Said.{said_in}
 use Rattle.fx_build.proofs.Applied.{AllSuit, CallsAreSafe, call_along, call_suits, literal_called, literal_piped, pipe_along, piped_runs, pushed_at}
 use Rattle.fx_build.proofs.ArgLaws.{IsGiven, given_fits}
 use Rattle.fx_build.proofs.Entered.{TreesFit, entered_safe}
+use Rattle.fx_build.proofs.FoldLaws.{words_said}
 use Rattle.fx_build.proofs.NameLaws.{HasLine, IsBuilt, Obeys, is_built}
 use Rattle.fx_build.proofs.NativeLaws.{pipe_facts, pipe_label_is, said_push, says_nothing}
 use Rattle.fx_build.proofs.ParamLaws.{Suits, absent_suits, suits, takes_row}
-use Rattle.fx_build.proofs.SafeLaws.{safe_cut, safe_later}
+use Rattle.fx_build.proofs.SafeLaws.{safe_cut, safe_every, safe_later}
 use Rattle.fx_build.proofs.Sound.{tree_fits}
 
 -- a built-in by itself, called with the words of a line and with arguments for all else that it takes
@@ -66,7 +67,6 @@ lined (stream c) needs input t h = absurd h
 lined (shown a p c) needs input t h = absurd h
 
 module _ (calls : Calls) (safe : CallsAreSafe calls) (runs : (g : Native) → NativeRuns calls g)
-    (said : (x : Builtin) (w : Given) (L : Line) (ps : Props) (r : GroundRow) (args : Slots) → IsLine x w L → IsGiven (Some x) ps w r args → said_in (Some x) args ≡ Some w)
     (place : Place) (moment : ℤ) (within : IsTrue (in_64_bits moment)) where
   -- ---- calls
 
@@ -125,7 +125,7 @@ module _ (calls : Calls) (safe : CallsAreSafe calls) (runs : (g : Native) → Na
       let n = truth_or_native x w L v (is_built x) h in
       subst (λ y. IsSafe (λ z. fits z t) (applied_to calls place moment args y)) (sym n.1)
       (runs n.0 place moment w L called.0 called.1 t args within (subst (λ y. IsLine y w L) (sym n.2) h.1) h.3 called.2
-      (subst (λ y. said_in (Some y) args ≡ Some w) (sym n.2) (said x w L ps r args h.1 given))
+      (subst (λ y. said_in (Some y) args ≡ Some w) (sym n.2) (words_said x w L ps r args h.1 given))
       (λ l none. suits (with_input L.pipe_label called.1 called.0 l) (L.optional l) (r l) (look l args) (takes_row L.pipe_label called.1 called.0 L.optional r called.3 l)
       (given_fits given l (subst (λ y. form_of y l ≡ None) n.2 none))))
 
@@ -182,19 +182,18 @@ module _ (calls : Calls) (safe : CallsAreSafe calls) (runs : (g : Native) → Na
       subst (λ y. IsSafe (λ z. fits z t) (piped_to calls place moment args input y)) (sym n.1)
       (native_piped n.0 w L called.0 u t input args (subst (λ y. IsLine y w L) (sym n.2) h.1) h.3 called.1 fit
       (λ l none. suits (called.0 l) (L.optional l) (r l) (look l args) (called.2 l) (given_fits given l (subst (λ y. form_of y l ≡ None) n.2 none)))
-      (λ p pipe none. said_push (native_builtin n.0) args p input none ∙ subst (λ y. said_in (Some y) args ≡ Some w) (sym n.2) (said x w L ps r args h.1 given)))
+      (λ p pipe none. said_push (native_builtin n.0) args p input none ∙ subst (λ y. said_in (Some y) args ≡ Some w) (sym n.2) (words_said x w L ps r args h.1 given)))
 
 -- ---- all calls of literals, however deep they nest
 
-module _ (test : Tests) (runs : (calls : Calls) (g : Native) → NativeRuns calls g)
-    (said : (x : Builtin) (w : Given) (L : Line) (ps : Props) (r : GroundRow) (args : Slots) → IsLine x w L → IsGiven (Some x) ps w r args → said_in (Some x) args ≡ Some w) where
-  trees_fit : (calls : Calls) → CallsAreSafe calls → (setting : Setting) (moment : IsTrue (in_64_bits setting.moment)) → TreesFit test calls setting moment
+module _ (test : Tests) (runs : (calls : Calls) (g : Native) → NativeRuns calls g) where
+  pub trees_fit : (calls : Calls) → CallsAreSafe calls → (setting : Setting) (moment : IsTrue (in_64_bits setting.moment)) → TreesFit test calls setting moment
   trees_fit calls safe setting moment env slots =
       tree_fits test calls setting moment env slots
-      (λ place b ps w L r t v args. applied calls safe (runs calls) said place setting.moment moment b ps w L r t v args)
-      (λ place b ps w L r u t v input args. piped calls safe (runs calls) said place setting.moment moment b ps w L r u t v input args)
+      (λ place b ps w L r t v args. applied calls safe (runs calls) place setting.moment moment b ps w L r t v args)
+      (λ place b ps w L r u t v input args. piped calls safe (runs calls) place setting.moment moment b ps w L r u t v input args)
 
-  nested_safe : (n : ℕ) → CallsAreSafe (nested test n)
+  pub nested_safe : (n : ℕ) → CallsAreSafe (nested test n)
   nested_safe zero ps lets e captured args setting env P t h met served = tt
   nested_safe (suc n) ps lets e captured args setting env P t h met served =
       safe_later (λ v. fits v t) 1 (entered test (nested test n) setting ps lets e captured args)
@@ -206,3 +205,9 @@ module _ (test : Tests) (runs : (calls : Calls) (g : Native) → NativeRuns call
   expression_safe setting env slots e t limit met h =
       safe_cut (λ v. fits v t) limit (means test (nested test limit) setting e slots)
       (trees_fit (nested test limit) (nested_safe limit) setting met.0 env slots e t met.1 h)
+
+  -- and its value fits every type that it has
+  pub every_type_safe : (setting : Setting) (env : Env) (slots : Slots) (e : Tree) (t : Ground) (limit : ℕ) → Meets (free e) setting env slots → HasType env e t
+      → IsSafe (λ v. (u : Ground) → HasType env e u → fits v u) (meaning test setting e slots limit)
+  every_type_safe setting env slots e t limit met h =
+      safe_every (HasType env e) (λ u v. fits v u) (meaning test setting e slots limit) (λ u k. expression_safe setting env slots e u limit met k) t h

@@ -8,7 +8,9 @@ pub mod NameLaws
 pub mod NativeLaws
 pub mod OperatorLaws
 pub mod ParamLaws
+pub mod RunLaws
 pub mod SafeLaws
 pub mod SlotLaws
 pub mod Sound
 pub mod WordLaws
+pub mod Worked
