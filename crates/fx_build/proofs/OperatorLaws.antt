@@ -1,6 +1,6 @@
 -- Operators and signs on operands of the types that they take.
 use Rattle.std.proofs.Common.{◌≡◌, refl, sym, subst, ◌∙◌, inl, inr, Bool, true, false, ◌&&◌, ◌||◌, not, List, [], ◌∷◌, ◌++◌, ℕ, ℤ, ◌+ℤ◌, ◌-ℤ◌, ◌*ℤ◌, pos, negsuc, zero, suc, neg_ℤ, int_div, int_rem, Some, None, Ok, Err, ◌⊎◌, IsTrue, is_some}
-use Rattle.std.specs.Prelude.{if◌then◌else◌, Option}
+use Rattle.std.specs.Prelude.{if◌then◌else◌, slice_get, Option}
 use Rattle.std.specs.Ordering.{int_eq}
 use Rattle.std.proofs.lemmas.Bool.{and_from, and_parts}
 use mathlib.Core.Bool.{false≢true}
@@ -29,9 +29,9 @@ use Rattle.fx_types.specs.Kinds.{of_kind, IsAmong}
 use Rattle.fx_schemes.specs.Line.{IsKind}
 use Rattle.fx_infer.specs.Operators.{Infixed, Prefixed}
 use Rattle.fx_meaning.specs.Ends.{◌>>=◌, pure, answered}
-use Rattle.fx_meaning.specs.Forms.{cell_in, flag_in, items_in, nth, truth_in}
-use Rattle.fx_meaning.specs.Operators.{indexed, item, item_or_fault, text_made, binary, of_cells, decides, exists, logic, joined, is_flag, is_known, match_text, matched, operate, opposite, prefixed}
-use Rattle.fx_meaning.specs.Value.{Val, cell, span, array, Vals, no_vals, more_vals}
+use Rattle.fx_meaning.specs.Forms.{cell_in, flag_in, items_in, truth_in, val_list}
+use Rattle.fx_meaning.specs.Operators.{indexed, item, item_or_fault, text_made, binary, of_cells, decides, exists, logic, joined, is_flag, is_known, matched, operate, opposite, prefixed}
+use Rattle.fx_meaning.specs.Value.{Val, cell, span, pattern, array, Vals, no_vals, more_vals}
 use Rattle.fx_build.specs.Fit.{each_fits, fits, is_cell, SpanFits}
 use Rattle.fx_build.specs.Safe.{IsSafe}
 use Rattle.fx_build.proofs.KindLaws.{Makes, cell_at_safe, of_cell, of_flag, of_array, of_int, of_text, of_span, of_pattern}
@@ -115,7 +115,8 @@ binary_safe : (place : Place) (which : BinaryOp) (k : Kind) (v w : Val) → Work
 binary_safe place which k v w works fit_v fit_w =
     of_cell k v (λ x. IsSafe (λ y. fits y (of_kind (answer_kind which k))) (binary place which x w)) fit_v
     (λ a is_a. of_cell k w (λ x. IsSafe (λ y. fits y (of_kind (answer_kind which k))) (binary place which (cell a) x)) fit_w
-    (λ b is_b. of_cells_safe place which k a b works (and_parts (is_kind a k) (is_whole a) is_a).0 (and_parts (is_kind b k) (is_whole b) is_b).0))
+    (λ b is_b. safe_later (λ y. fits y (of_kind (answer_kind which k))) 0 (of_cells place which a b)
+    (of_cells_safe place which k a b works (and_parts (is_kind a k) (is_whole a) is_a).0 (and_parts (is_kind b k) (is_whole b) is_b).0)))
 
 -- ---- by the rules of typing
 
@@ -197,7 +198,7 @@ matched_safe : (test : ℕ → List ℕ → Bool) (wanted : Bool) (v w : Val) �
 matched_safe test wanted v w fit_v fit_w =
     of_cell kind.Text v (λ x. IsSafe (λ y. fits y g_bool) (matched test wanted x w)) fit_v
     (λ a is_a. of_pattern w (λ x. IsSafe (λ y. fits y g_bool) (matched test wanted (cell a) x)) fit_w
-    (λ n. of_text a (λ b. IsSafe (λ y. fits y g_bool) (match_text test wanted n b)) is_a refl (λ s. refl)))
+    (λ n. of_text a (λ b. IsSafe (λ y. fits y g_bool) (matched test wanted (cell b) (pattern n))) is_a refl (λ s. refl)))
 
 -- ---- all operators
 
@@ -303,7 +304,7 @@ pub text_safe : (place : Place) (made : Option (List ℕ)) → IsSafe (λ v. fit
 text_safe place (Some text) = cell_at_safe place kind.Text (limited text) (limited_makes text)
 text_safe place None = refl
 
-item_safe : (place : Place) (t : Ground) (vs : Vals) (n : ℕ) → each_fits vs t → IsSafe (λ v. fits v t) (answered place (item_or_fault (nth vs n)))
+item_safe : (place : Place) (t : Ground) (vs : Vals) (n : ℕ) → each_fits vs t → IsSafe (λ v. fits v t) (answered place (item_or_fault (slice_get (val_list vs) n)))
 item_safe place t no_vals n h = tt
 item_safe place t (more_vals v vs) zero h = h.0
 item_safe place t (more_vals v vs) (suc n) h = item_safe place t vs n h.1
