@@ -12,5 +12,6 @@ pub mod RunLaws
 pub mod SafeLaws
 pub mod SlotLaws
 pub mod Sound
+pub mod TakenLaws
 pub mod WordLaws
 pub mod Worked

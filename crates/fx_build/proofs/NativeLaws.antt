@@ -23,19 +23,19 @@ use Rattle.fx_build.proofs.ParamLaws.{Suits, absent_suits, all_pass, passes}
 
 -- ---- no label of a line is another one
 
-abbrev is_pipe : Option Label → Label → Bool
+abbrev pub is_pipe : Option Label → Label → Bool
 is_pipe None l = false
 is_pipe (Some x) l = same_text l x
 
 -- neither required nor optional
-abbrev is_further : Builtin → Label → Bool
+abbrev pub is_further : Builtin → Label → Bool
 is_further x l = not (listed l (required_of x)) && not (listed l (optional_of x))
 
-abbrev pipe_is_further : Builtin → Option Label → Bool
+abbrev pub pipe_is_further : Builtin → Option Label → Bool
 pipe_is_further x None = true
 pipe_is_further x (Some p) = is_further x p && is_none (form_of x p)
 
-pipes_are_further : (x : Builtin) → pipe_is_further x (pipe_label_of x) ≡ true
+pub pipes_are_further : (x : Builtin) → pipe_is_further x (pipe_label_of x) ≡ true
 pipes_are_further b.From = refl
 pipes_are_further _ = refl
 
@@ -71,14 +71,20 @@ untrue : (c : Bool) → not c ≡ true → c ≡ false
 untrue true h = absurd (false≢true h)
 untrue false h = refl
 
+-- a label that isn't the pipe's is required where it is required without it
+pub unpiped : (p : Option Label) (input : GroundField) (needs : GroundRow) (l : Label) → is_pipe p l ≡ false → with_input p input needs l ≡ needs l
+unpiped None input needs l h = refl
+unpiped (Some y) g_absent needs l h = refl
+unpiped (Some y) (g_is u) needs l h = passed (same_text l y) (g_is u) (needs l) h
+
 module _ (x : Builtin) (w : Given) (L : Line) (needs : GroundRow) (input : GroundField) (t : Ground) (line : IsLine x w L) (type : L.type ≡ g_fun needs input t) where
-  labels : IsFunctionOf (signature_or_nothing (signature_of x)) L
+  pub labels : IsFunctionOf (signature_or_nothing (signature_of x)) L
   labels = function_of (signature_of x) L needs input t (line_signature x w L line) type
 
   pub pipe_label_is : L.pipe_label ≡ pipe_label_of x
   pipe_label_is = labels.pipe_label
 
-  further_absent : (l : Label) → is_further x l ≡ true → (needs l ≡ g_absent) × (L.optional l ≡ g_absent)
+  pub further_absent : (l : Label) → is_further x l ≡ true → (needs l ≡ g_absent) × (L.optional l ≡ g_absent)
   further_absent l h =
       let parts = and_parts (not (listed l (required_of x))) (not (listed l (optional_of x))) h in
       let made : g_fun labels.needs labels.input labels.gives ≡ g_fun needs input t = sym labels.type ∙ type in
@@ -118,13 +124,8 @@ module _ (x : Builtin) (w : Given) (L : Line) (needs : GroundRow) (input : Groun
       let absent = further_absent l parts.0 in
       absent_suits o
       (subst (Suits o g_absent) absent.1
-      (subst (λ g. Suits o g (L.optional l)) (unpiped (pipe_label_of x) input (untrue (is_pipe (pipe_label_of x) l) parts.1) ∙ absent.0)
+      (subst (λ g. Suits o g (L.optional l)) (unpiped (pipe_label_of x) input needs l (untrue (is_pipe (pipe_label_of x) l) parts.1) ∙ absent.0)
       (subst (λ p. Suits o (with_input p input needs l) (L.optional l)) pipe_label_is suit)))
-    where
-      unpiped : (p : Option Label) (i : GroundField) → is_pipe p l ≡ false → with_input p i needs l ≡ needs l
-      unpiped None i h = refl
-      unpiped (Some y) g_absent h = refl
-      unpiped (Some y) (g_is u) h = passed (same_text l y) (g_is u) (needs l) h
 
   said_none : (args : Slots) → passes (λ l. is_none (form_of x l)) args ≡ true → said_in (Some x) args ≡ Some []
   said_none no_slots h = refl

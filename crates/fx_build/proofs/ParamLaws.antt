@@ -66,11 +66,11 @@ absent_suits (Some v) h = absurd h
 
 -- ---- labels of slots
 
-there_step : (c : Bool) (o : Option Val) (v : Val) → is_there o ≡ true → is_there (or_else o (if c then Some v else None)) ≡ true
+pub there_step : (c : Bool) (o : Option Val) (v : Val) → is_there o ≡ true → is_there (or_else o (if c then Some v else None)) ≡ true
 there_step c None v h = absurd (false≢true h)
 there_step c (Some w) v h = refl
 
-there_itself : (c : Bool) (o : Option Val) (v : Val) → c ≡ true → is_there (or_else o (if c then Some v else None)) ≡ true
+pub there_itself : (c : Bool) (o : Option Val) (v : Val) → c ≡ true → is_there (or_else o (if c then Some v else None)) ≡ true
 there_itself true None v h = refl
 there_itself true (Some w) v h = refl
 there_itself false o v h = absurd (false≢true h)
