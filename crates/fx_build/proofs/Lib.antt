@@ -8,6 +8,7 @@ pub mod NameLaws
 pub mod NativeLaws
 pub mod OperatorLaws
 pub mod ParamLaws
+pub mod PlainCalls
 pub mod RunLaws
 pub mod SafeLaws
 pub mod SlotLaws

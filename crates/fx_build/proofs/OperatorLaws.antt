@@ -39,7 +39,7 @@ use Rattle.fx_build.proofs.SafeLaws.{safe_later, safe_then}
 
 -- ---- the kinds of what operators make
 
-limited_makes : (text : List ℕ) → Makes kind.Text (limited text)
+pub limited_makes : (text : List ℕ) → Makes kind.Text (limited text)
 limited_makes text = elim (is_short text) as (λ c. Makes kind.Text (if c then Ok (scalar.Text text) else Err TooLarge)) [ true ↦ refl | false ↦ tt ]
 
 whole_makes : (n : ℤ) → Makes kind.Int (whole n)
@@ -66,7 +66,7 @@ worked_makes _ kind.Text a b = refl
 worked_makes _ kind.Time a b = refl
 
 -- null, or of just the kind
-kind_is : (a : Scalar) (k : Kind) → IsTrue (is_kind a k) → (kind_of a ≡ None) ⊎ (kind_of a ≡ Some k)
+pub kind_is : (a : Scalar) (k : Kind) → IsTrue (is_kind a k) → (kind_of a ≡ None) ⊎ (kind_of a ≡ Some k)
 kind_is scalar.Null k h = inl refl
 kind_is (scalar.Bool b) kind.Bool h = inr refl
 kind_is (scalar.Int n) kind.Int h = inr refl
@@ -95,7 +95,7 @@ takes_it which k None works h = refl
 takes_it which k (Some l) works (inl e) = absurd cc
 takes_it which k (Some l) works (inr e) = let same : l ≡ k = cc in subst (λ x. is_some (work_of which x) ≡ true) (sym same) works
 
-is_like_it : (k : Kind) (l : Option Kind) (b : Scalar) → (l ≡ None) ⊎ (l ≡ Some k) → IsTrue (is_kind b k) → is_like l b ≡ true
+pub is_like_it : (k : Kind) (l : Option Kind) (b : Scalar) → (l ≡ None) ⊎ (l ≡ Some k) → IsTrue (is_kind b k) → is_like l b ≡ true
 is_like_it k None b h is = refl
 is_like_it k (Some l) b (inl e) is = absurd cc
 is_like_it k (Some l) b (inr e) is = let same : l ≡ k = cc in subst (λ x. is_kind b x ≡ true) (sym same) is
