@@ -1,3 +1,4 @@
+pub mod AnswerLaws
 pub mod Applied
 pub mod ArgLaws
 pub mod Callable
@@ -11,6 +12,7 @@ pub mod ParamLaws
 pub mod PlainCalls
 pub mod RunLaws
 pub mod SafeLaws
+pub mod ScalarCalls
 pub mod SlotLaws
 pub mod Sound
 pub mod TakenLaws
