@@ -2,9 +2,11 @@ pub mod AnswerLaws
 pub mod Applied
 pub mod ArgLaws
 pub mod Callable
+pub mod ConvertCalls
 pub mod Entered
 pub mod FoldLaws
 pub mod KindLaws
+pub mod MemberCalls
 pub mod NameLaws
 pub mod NativeLaws
 pub mod OperatorLaws
