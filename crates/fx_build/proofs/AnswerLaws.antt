@@ -1,5 +1,5 @@
 -- Of which kind the answers of functions on scalars are.
-use Rattle.std.proofs.Common.{refl, Bool, true, false, List, length, ℤ, ℕ, pos, negsuc, Some, None, Ok, Err}
+use Rattle.std.proofs.Common.{refl, Bool, true, false, List, length, ℤ, ℕ, pos, negsuc, Some, None, Err}
 use Rattle.std.specs.Prelude.{◌&&◌, if◌then◌else◌, int_le, neg_ℤ, unsigned_abs, Option, Result}
 use Rattle.std.specs.List.{repeat}
 use Rattle.std.specs.Str.{chars}

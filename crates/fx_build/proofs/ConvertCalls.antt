@@ -1,5 +1,5 @@
 -- Calls of `int`, `string`, `bool` and `time` are safe.
-use Rattle.std.proofs.Common.{◌≡◌, refl, sym, subst, inl, inr, Bool, true, false, List, [], ◌∷◌, ℕ, ℤ, pos, Some, None, Ok, Err}
+use Rattle.std.proofs.Common.{◌≡◌, refl, sym, subst, inl, inr, true, false, List, [], ◌∷◌, ℕ, ℤ, pos, Some, None, Ok, Err}
 use Rattle.std.specs.Prelude.{if◌then◌else◌, codes, IsTrue, Option}
 use Rattle.std.specs.Ordering.{int_eq}
 use Rattle.std.proofs.lemmas.Bool.{and_parts}
@@ -32,7 +32,7 @@ use Rattle.fx_build.proofs.Callable.{NativeRuns}
 use Rattle.fx_build.proofs.KindLaws.{Makes, cell_at_safe}
 use Rattle.fx_build.proofs.OperatorLaws.{limited_makes}
 use Rattle.fx_build.proofs.ParamLaws.{Suits}
-use Rattle.fx_build.proofs.PlainCalls.{Answers, IsAt, Lined, call_runs, cell_safe}
+use Rattle.fx_build.proofs.PlainCalls.{IsAt, Lined, call_runs, cell_safe}
 use Rattle.fx_build.proofs.SafeLaws.{safe_then}
 
 -- ---- what conversions answer

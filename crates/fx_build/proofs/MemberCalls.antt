@@ -1,5 +1,5 @@
 -- Calls of `contains` and `split` are safe.
-use Rattle.std.proofs.Common.{◌≡◌, refl, sym, subst, inl, inr, ◌⊎◌, Bool, true, false, ◌&&◌, List, [], ◌∷◌, ℕ, Some, None, Ok, Err}
+use Rattle.std.proofs.Common.{◌≡◌, refl, sym, subst, inl, inr, ◌⊎◌, Bool, true, false, List, [], ◌∷◌, ℕ, Some, None, Ok, Err}
 use Rattle.std.specs.Prelude.{if◌then◌else◌, codes, IsTrue, Option}
 use Rattle.std.specs.List.{list_all}
 use Rattle.std.proofs.lemmas.Bool.{and_from, and_parts}
@@ -23,7 +23,7 @@ use Rattle.fx_meaning.specs.declared.native.Native.TheVariants as n
 use Rattle.fx_meaning.specs.Ends.{◌>>=◌, answered, pure}
 use Rattle.fx_meaning.specs.Forms.{cell_of, items_of}
 use Rattle.fx_meaning.specs.Meaning.{Calls}
-use Rattle.fx_meaning.specs.Natives.{cells_in, contains, contains_of, is_in, split, split_by, split_null, split_of, split_parts, texts_array, texts_made}
+use Rattle.fx_meaning.specs.Natives.{cells_in, contains, contains_of, is_in, split, split_by, split_null, split_of, texts_array, texts_made}
 use Rattle.fx_meaning.specs.Value.{Slots, cell, look}
 use Rattle.fx_build.specs.Fit.{each_fits, fits, is_cell}
 use Rattle.fx_build.specs.Safe.{IsSafe}
@@ -32,7 +32,7 @@ use Rattle.fx_build.proofs.KindLaws.{of_text}
 use Rattle.fx_build.proofs.OperatorLaws.{is_like_it, kind_is}
 use Rattle.fx_build.proofs.ParamLaws.{Suits}
 use Rattle.fx_build.proofs.PlainCalls.{IsAt, Lined, call_runs, cell_safe, cells_safe, items_safe}
-use Rattle.fx_build.proofs.SafeLaws.{safe_later, safe_then}
+use Rattle.fx_build.proofs.SafeLaws.{safe_then}
 
 -- ---- `contains`
 

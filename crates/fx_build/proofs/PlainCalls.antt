@@ -1,29 +1,17 @@
 -- Calls of `now`, of conversions, and of `length`, `contains` and `split` are safe.
-use Rattle.std.proofs.Common.{◌≡◌, refl, sym, ap, subst, ◌∙◌, inl, inr, ◌⊎◌, Bool, true, false, ◌&&◌, List, [], ◌∷◌, ℤ, ℕ, pos, Some, None, Ok, Err, length}
-use Rattle.std.specs.Prelude.{if◌then◌else◌, codes, IsTrue, Option, Result}
+use Rattle.std.proofs.Common.{◌≡◌, refl, sym, ap, subst, ◌∙◌, true, [], ◌∷◌, ℤ, pos, Some, None, Ok, length}
+use Rattle.std.specs.Prelude.{if◌then◌else◌, codes, IsTrue, Option}
 use Rattle.std.specs.List.{list_all}
-use Rattle.std.specs.Ordering.{int_eq}
 use Rattle.std.proofs.lemmas.Bool.{and_from, and_parts}
-use mathlib.Core.Bool.{false≢true}
-use Rattle.fx_base.specs.Text.{same_text}
-use Rattle.fx_base.specs.declared.fault.FaultKind.TheVariants.{BadConversion, TooLarge}
 use Rattle.fx_base.specs.declared.place.Place.{Place}
-use Rattle.fx_time.specs.Time.{time_text}
-use Rattle.fx_time.specs.Value.{time_value}
 use Rattle.fx_value.specs.Ends.{End, Stuck}
-use Rattle.fx_value.specs.Scalar.{kind_of}
 use Rattle.fx_value.specs.declared.scalar.Kind.{Kind}
 use Rattle.fx_value.specs.declared.scalar.Kind.TheVariants as kind
-use Rattle.fx_value.specs.declared.scalar.Scalar.{Scalar}
 use Rattle.fx_value.specs.declared.scalar.Scalar.TheVariants as scalar
-use Rattle.fx_ops.specs.Binary.{is_like}
-use Rattle.fx_ops.specs.Convert.{converted, flag, int_value, is_convertible, named_flag, read}
 use Rattle.fx_ops.specs.Kinds.{is_kind, is_whole}
-use Rattle.fx_ops.specs.Limit.{is_short}
-use Rattle.fx_ops.specs.Parts.{all_limited, parts}
 use Rattle.fx_ops.specs.Whole.{in_64_bits}
-use Rattle.fx_types.specs.Ground.{Ground, GroundField, GroundRow, g_bool, g_int, g_text, g_time, g_array, g_fun, g_absent, g_is}
-use Rattle.fx_types.specs.Kinds.{IsAmong, of_kind}
+use Rattle.fx_types.specs.Ground.{Ground, GroundField, g_int, g_time, g_array, g_fun, g_absent, g_is}
+use Rattle.fx_types.specs.Kinds.{of_kind}
 use Rattle.fx_types.specs.Term.{Label}
 use Rattle.fx_schemes.specs.Builtins.{IsLine}
 use Rattle.fx_schemes.specs.Given.{Given}
@@ -31,19 +19,18 @@ use Rattle.fx_schemes.specs.Line.{Line, Parameters, call, parameters}
 use Rattle.fx_schemes.specs.Signature.{form_of}
 use Rattle.fx_meaning.specs.declared.native.Native.{Native}
 use Rattle.fx_meaning.specs.declared.native.Native.TheVariants as n
-use Rattle.fx_meaning.specs.Ends.{◌>>=◌, answered, cell_at, found, pure}
+use Rattle.fx_meaning.specs.Ends.{◌>>=◌, cell_at, found, pure}
 use Rattle.fx_meaning.specs.Forms.{cell_in, cell_of, each, items_in, items_of, val_list}
 use Rattle.fx_meaning.specs.Meaning.{Calls}
-use Rattle.fx_meaning.specs.Native.{native_builtin, takes_native}
-use Rattle.fx_meaning.specs.Natives.{cells_in, contains, contains_of, convert_call, convert_of, is_in, length_of, native_call, split, split_of, split_parts, texts_array, texts_made}
-use Rattle.fx_meaning.specs.Value.{Val, array, cell, Vals, no_vals, more_vals, Slots, look}
+use Rattle.fx_meaning.specs.Native.{native_builtin}
+use Rattle.fx_meaning.specs.Natives.{native_call}
+use Rattle.fx_meaning.specs.Value.{Val, Vals, no_vals, more_vals, Slots, look}
 use Rattle.fx_build.specs.Fit.{each_fits, fits, is_cell, with_input}
 use Rattle.fx_build.specs.Safe.{IsSafe}
 use Rattle.fx_build.proofs.Callable.{NativeRuns}
-use Rattle.fx_build.proofs.KindLaws.{Makes, cell_at_safe, of_array, of_cell, of_text}
-use Rattle.fx_build.proofs.OperatorLaws.{is_like_it, kind_is, limited_makes}
+use Rattle.fx_build.proofs.KindLaws.{cell_at_safe, of_array, of_cell}
 use Rattle.fx_build.proofs.ParamLaws.{Suits}
-use Rattle.fx_build.proofs.SafeLaws.{safe_later, safe_then}
+use Rattle.fx_build.proofs.SafeLaws.{safe_then}
 use Rattle.fx_build.proofs.TakenLaws.{line_taken}
 
 -- ---- arguments

@@ -1,11 +1,10 @@
 -- Calls of the functions of `strings` and `date` on scalars are safe.
-use Rattle.std.proofs.Common.{◌≡◌, refl, subst, sym, Bool, true, false, ◌&&◌, ◌++◌, List, [], ◌∷◌, Some, None}
+use Rattle.std.proofs.Common.{◌≡◌, refl, subst, sym, true, ◌++◌, List, [], ◌∷◌, Some}
 use Rattle.std.specs.Prelude.{if◌then◌else◌, codes, IsTrue, Option}
-use Rattle.std.specs.List.{list_all}
 use Rattle.std.proofs.lemmas.Bool.{and_from, and_parts}
 use Rattle.fx_base.specs.declared.place.Place.{Place}
 use Rattle.fx_time.specs.declared.span.Span.{Span}
-use Rattle.fx_value.specs.Ends.{End, Stuck}
+use Rattle.fx_value.specs.Ends.{Stuck}
 use Rattle.fx_value.specs.declared.scalar.Kind.{Kind}
 use Rattle.fx_value.specs.declared.scalar.Kind.TheVariants as kind
 use Rattle.fx_value.specs.declared.scalar.Scalar.{Scalar}
@@ -14,7 +13,7 @@ use Rattle.fx_ops.specs.Kinds.{is_kind, is_whole}
 use Rattle.fx_ops.specs.Signatures.{are_of, argument_kinds, called_kind, further_kind, takes_arguments}
 use Rattle.fx_ops.specs.declared.function.ScalarFn.{ScalarFn}
 use Rattle.fx_ops.specs.declared.function.ScalarFn.TheVariants as f
-use Rattle.fx_types.specs.Ground.{Ground, g_bool, g_int, g_text, g_time, g_span, g_array}
+use Rattle.fx_types.specs.Ground.{g_bool, g_int, g_text, g_time, g_span, g_array}
 use Rattle.fx_types.specs.Kinds.{of_kind}
 use Rattle.fx_types.specs.Term.{Label}
 use Rattle.fx_schemes.specs.Builtins.{IsLine}
