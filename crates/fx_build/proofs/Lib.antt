@@ -8,6 +8,7 @@ pub mod FoldLaws
 pub mod KindLaws
 pub mod MemberCalls
 pub mod NameLaws
+pub mod NativeCalls
 pub mod NativeLaws
 pub mod OperatorLaws
 pub mod ParamLaws
