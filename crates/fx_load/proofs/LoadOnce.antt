@@ -18,7 +18,7 @@ use Rattle.fx_load.specs.Load.{in_bucket, Fit, Takes, Reads, IsCause, IsTooMany,
 -- ---- two places in one list
 
 -- two cuts of one list are at one place, or one of them is before the other
-abbrev AreCuts : {X : Type 0} → List X → X → List X → X → Type 0
+abbrev pub AreCuts : {X : Type 0} → List X → X → List X → X → Type 0
 AreCuts {X} xs x ys y = ((xs ≡ ys) × (x ≡ y)) ⊎ (((more : List X) × (ys ≡ xs ++ x ∷ more)) ⊎ ((more : List X) × (xs ≡ ys ++ y ∷ more)))
 
 cuts_later : {X : Type 0} (a b x y : X) (xs ys : List X) → a ≡ b → AreCuts xs x ys y → AreCuts (a ∷ xs) x (b ∷ ys) y
@@ -26,7 +26,7 @@ cuts_later a b x y xs ys e (inl h) = inl ((λ i. e i ∷ h.0 i), h.1)
 cuts_later a b x y xs ys e (inr (inl h)) = inr (inl (h.0, λ i. sym e i ∷ h.1 i))
 cuts_later a b x y xs ys e (inr (inr h)) = inr (inr (h.0, λ i. e i ∷ h.1 i))
 
-cuts : {X : Type 0} (xs ys us vs : List X) (x y : X) → xs ++ x ∷ us ≡ ys ++ y ∷ vs → AreCuts xs x ys y
+pub cuts : {X : Type 0} (xs ys us vs : List X) (x y : X) → xs ++ x ∷ us ≡ ys ++ y ∷ vs → AreCuts xs x ys y
 cuts [] [] us vs x y e = inl (refl, cc e)
 cuts [] (b ∷ ys) us vs x y e = let head : x ≡ b = cc e in inr (inl (ys, λ i. sym head i ∷ ys))
 cuts (a ∷ xs) [] us vs x y e = let head : a ≡ y = cc e in inr (inr (xs, λ i. head i ∷ xs))

@@ -1,3 +1,4 @@
 pub mod Bytes
 pub mod Load
+pub mod Loads
 pub mod Memo

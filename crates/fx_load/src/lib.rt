@@ -7,7 +7,9 @@ mod cause;
 mod known;
 mod learn;
 mod load;
+mod loads;
 mod memo;
 
 pub use cause::LineCause;
 pub use load::{LoadStop, MOST_POINTS, load_file};
+pub use loads::{FileStop, Load, LoadsStop, MOST_FILE_BYTES, load_files};

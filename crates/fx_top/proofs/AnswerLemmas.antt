@@ -1,30 +1,23 @@
 -- How the answers of the stages make those of the whole.
-use Rattle.fx_line.specs.declared.line.LineMode.{LineMode}
-use Rattle.std.proofs.Common.{◌≡◌, ℕ, List, [], ◌∷◌, length, take, Option, None, Some, Ok, Err, refl, sym, ◌∙◌, ap, subst, append-nil, inl, inr, Bool, true, false, arith, if◌then◌else◌}
-use Rattle.std.specs.Cmp.Lexicographic.{nat_list_eq_equiv}
-use Rattle.fx_base.specs.Text.{same_text}
+use Rattle.std.proofs.Common.{◌≡◌, ℕ, List, [], length, take, Option, None, Some, Ok, Err, refl, sym, ◌∙◌, ap, subst, append-nil, inl, inr}
 use Rattle.std.proofs.Math.Seq.{take-length}
 use Rattle.std.specs.Prelude.{◌⊎◌}
 use Rattle.fx_base.specs.Outside.{Told, appended}
+use Rattle.fx_line.specs.declared.line.LineMode.{LineMode}
 use Rattle.fx_line.specs.Stored.{StoredPoint}
+use Rattle.fx_load.specs.declared.loads.Load.{Load}
+use Rattle.fx_load.specs.declared.loads.FileStop.{FileStop}
+use Rattle.fx_load.specs.declared.loads.FileStop.TheVariants as file_stop
+use Rattle.fx_load.specs.declared.loads.LoadsStop.{LoadsStop}
+use Rattle.fx_load.specs.Loads.{FilesLoad, FilesRead, IsLong, StopCauses, StopsFiles}
 use Rattle.fx_series.specs.Store.{Kept, StandsFor}
 use Rattle.fx_top.specs.declared.command.Command.{Command}
 use Rattle.fx_top.specs.declared.query.Query.{Query}
-use Rattle.fx_load.specs.declared.load.LoadStop.{LoadStop}
-use Rattle.fx_load.specs.declared.load.LoadStop.TheVariants as load_stop
 use Rattle.fx_top.specs.declared.outcome.Outcome.{Outcome}
 use Rattle.fx_top.specs.declared.outcome.Outcome.TheVariants as outcome
-use Rattle.fx_top.specs.declared.run.TheConstants.{MOST_FILE_BYTES}
-use Rattle.fx_load.specs.Bytes.{lines_of}
+use Rattle.fx_top.specs.declared.run.TheConstants.{MOST_SCRIPT_BYTES}
 use Rattle.fx_top.specs.Command.{IsCommand}
-use Rattle.fx_load.specs.Load.{IsReady, Reads, FileLoads, StopsAt, IsCause}
-use Rattle.fx_top.specs.Run.{tables_of}
-use Rattle.fx_top.specs.Answer.{Answers, Asks, Causes, EndsAs, IsTold, IsLong, NamesFile, Reaches, Runs, Writes, yield_text}
-use Rattle.fx_base.specs.declared.fault.Fault.{Fault}
-use Rattle.fx_base.specs.declared.fault.FaultKind.TheVariants.{NoBucket}
-use Rattle.fx_data.specs.declared.table.Table.{Table}
-use Rattle.fx_line.specs.Stored.{grouped}
-use Rattle.fx_series.specs.Store.{is_added}
+use Rattle.fx_top.specs.Answer.{Answers, Asks, Causes, EndsAs, NamesAt, NamesFile, Runs, Stops, Writes, buckets_of, yield_text}
 use Rattle.fx_top.specs.Stage.{DataAnswers, FileAnswers, FileCauses, RunCauses, StopAnswers}
 
 -- nothing more is written by no bytes
@@ -32,196 +25,207 @@ appended-nil : (old : Option (List ℕ)) → appended old [] ≡ old
 appended-nil None = refl
 appended-nil (Some bytes) = ap (λ b. Some b) (append-nil bytes)
 
--- a query over the points of a file is the run over the file
-pub data_ends : (mode : LineMode) (c : Command) (q : Query) (file : List ℕ) (stored : List StoredPoint) (old new : Option (List ℕ)) (o : Outcome) → Reads mode c.bucket (lines_of file) [] stored
-    → DataAnswers q (c.bucket ∷ []) stored old new o → EndsAs mode c q file old new o
-data_ends mode c q file stored old new outcome.Done read h = (h.0, record { stored = stored; read = read; run = h.1 }, h.2)
-data_ends mode c q file stored old new (outcome.Fault fault) read h = (stored, read, h.0, h.1)
-data_ends mode c q file stored old new outcome.SinkFault read h = (h.0, h.1, record { stored = stored; read = read; run = h.2 }, h.3)
-data_ends mode c q file stored old new outcome.Memory read (inl h) = inl h
-data_ends mode c q file stored old new outcome.Memory read (inr h) = inr (h.0, h.1, record { stored = stored; read = read; run = h.2 }, h.3)
-data_ends mode c q file stored old new outcome.Usage read h = absurd h
-data_ends mode c q file stored old new (outcome.FileFault name) read h = absurd h
-data_ends mode c q file stored old new (outcome.TooLong name taken) read h = absurd h
-data_ends mode c q file stored old new outcome.NotBuilt read h = absurd h
-data_ends mode c q file stored old new (outcome.Syntax place deep) read h = absurd h
-data_ends mode c q file stored old new (outcome.Line name number cause) read h = absurd h
-data_ends mode c q file stored old new (outcome.TooMany name number) read h = absurd h
-
--- a load stops with no other answer
-abbrev IsNoStop : Outcome → Type 0
-IsNoStop outcome.Memory = ⊥
-IsNoStop (outcome.Line name number cause) = ⊥
-IsNoStop (outcome.TooMany name number) = ⊥
-IsNoStop o = Unit {0}
-
-stop_other : (stop : LoadStop) (file : List ℕ) (o : Outcome) → IsNoStop o → StopAnswers stop file o → ⊥
-stop_other stop file outcome.Memory n h = n
-stop_other stop file (outcome.Line name number cause) n h = n
-stop_other stop file (outcome.TooMany name number) n h = n
-stop_other (load_stop.Line number cause) file outcome.Done n h = h
-stop_other (load_stop.TooMany number) file outcome.Done n h = h
-stop_other load_stop.Memory file outcome.Done n h = h
-stop_other (load_stop.Line number cause) file outcome.Usage n h = h
-stop_other (load_stop.TooMany number) file outcome.Usage n h = h
-stop_other load_stop.Memory file outcome.Usage n h = h
-stop_other (load_stop.Line number cause) file (outcome.FileFault name) n h = h
-stop_other (load_stop.TooMany number) file (outcome.FileFault name) n h = h
-stop_other load_stop.Memory file (outcome.FileFault name) n h = h
-stop_other (load_stop.Line number cause) file (outcome.TooLong name taken) n h = h
-stop_other (load_stop.TooMany number) file (outcome.TooLong name taken) n h = h
-stop_other load_stop.Memory file (outcome.TooLong name taken) n h = h
-stop_other (load_stop.Line number cause) file outcome.NotBuilt n h = h
-stop_other (load_stop.Line number cause) file (outcome.Syntax place deep) n h = h
-stop_other (load_stop.TooMany number) file outcome.NotBuilt n h = h
-stop_other (load_stop.TooMany number) file (outcome.Syntax place deep) n h = h
-stop_other load_stop.Memory file outcome.NotBuilt n h = h
-stop_other load_stop.Memory file (outcome.Syntax place deep) n h = h
-stop_other (load_stop.Line number cause) file (outcome.Fault fault) n h = h
-stop_other (load_stop.TooMany number) file (outcome.Fault fault) n h = h
-stop_other load_stop.Memory file (outcome.Fault fault) n h = h
-stop_other (load_stop.Line number cause) file outcome.SinkFault n h = h
-stop_other (load_stop.TooMany number) file outcome.SinkFault n h = h
-stop_other load_stop.Memory file outcome.SinkFault n h = h
-
--- the parts of a run over a file
-run_is : (mode : LineMode) (told : Told) (words : List (List ℕ)) (c : Command) (q : Query) (file : List ℕ) (old new : Option (List ℕ)) (o : Outcome) → Asks told words c q → IsTold told c.file MOST_FILE_BYTES file → EndsAs mode c q file old new o → Runs mode told words old new o
-run_is mode told words c q file old new o asks held h = record { command = c; query = q; file = file; asks = asks; data_file = held; ends = h }
-
--- so is a load of the file that stops
-pub stop_ends : (mode : LineMode) (c : Command) (q : Query) (file : List ℕ) (kept : Kept) (old : Option (List ℕ)) (stop : LoadStop) (o : Outcome)
-    → FileLoads mode (c.bucket ∷ []) c.bucket file [] kept (Err stop) → StopAnswers stop c.file o → EndsAs mode c q file old old o
-stop_ends mode c q file kept old stop outcome.Memory loads h = inl refl
-stop_ends mode c q file kept old (load_stop.Line number cause) (outcome.Line name n d) loads h =
-    (loads.0, loads.1, subst (λ m. StopsAt mode c.bucket file [] m loads.0 loads.1) (sym h.1) loads.2, subst (λ e. IsCause mode c.bucket loads.0 loads.1 e) (sym h.2) loads.3, h.0, refl)
-stop_ends mode c q file kept old (load_stop.TooMany number) (outcome.TooMany name n) loads h =
-    (loads.0, loads.1, subst (λ m. StopsAt mode c.bucket file [] m loads.0 loads.1) (sym h.1) loads.2, loads.3, h.0, refl)
-stop_ends mode c q file kept old stop outcome.Done loads h = absurd (stop_other stop c.file outcome.Done tt h)
-stop_ends mode c q file kept old stop outcome.Usage loads h = absurd (stop_other stop c.file outcome.Usage tt h)
-stop_ends mode c q file kept old stop (outcome.FileFault name) loads h = absurd (stop_other stop c.file (outcome.FileFault name) tt h)
-stop_ends mode c q file kept old stop (outcome.TooLong name taken) loads h = absurd (stop_other stop c.file (outcome.TooLong name taken) tt h)
-stop_ends mode c q file kept old stop outcome.NotBuilt loads h = absurd (stop_other stop c.file outcome.NotBuilt tt h)
-stop_ends mode c q file kept old stop (outcome.Syntax place deep) loads h = absurd (stop_other stop c.file (outcome.Syntax place deep) tt h)
-stop_ends mode c q file kept old stop (outcome.Fault fault) loads h = absurd (stop_other stop c.file (outcome.Fault fault) tt h)
-stop_ends mode c q file kept old stop outcome.SinkFault loads h = absurd (stop_other stop c.file outcome.SinkFault tt h)
-stop_ends mode c q file kept old (load_stop.TooMany number) (outcome.Line name n d) loads h = absurd h
-stop_ends mode c q file kept old load_stop.Memory (outcome.Line name n d) loads h = absurd h
-stop_ends mode c q file kept old (load_stop.Line number cause) (outcome.TooMany name n) loads h = absurd h
-stop_ends mode c q file kept old load_stop.Memory (outcome.TooMany name n) loads h = absurd h
-
--- ---- a run over a file as an answer of the whole
-
--- the run over a file is what the whole answers, writes and counts
-pub ends_answers : (mode : LineMode) (told : Told) (words : List (List ℕ)) (c : Command) (q : Query) (file : List ℕ) (old new : Option (List ℕ)) (o : Outcome)
-    → Asks told words c q → IsTold told c.file MOST_FILE_BYTES file → EndsAs mode c q file old new o → Answers mode told words old new o
-ends_answers mode told words c q file old new outcome.Done asks held h = run_is mode told words c q file old new outcome.Done asks held h
-ends_answers mode told words c q file old new (outcome.Line name number cause) asks held h = run_is mode told words c q file old new (outcome.Line name number cause) asks held h
-ends_answers mode told words c q file old new (outcome.TooMany name number) asks held h = run_is mode told words c q file old new (outcome.TooMany name number) asks held h
-ends_answers mode told words c q file old new (outcome.Fault fault) asks held h = run_is mode told words c q file old new (outcome.Fault fault) asks held h
-ends_answers mode told words c q file old new outcome.SinkFault asks held h = run_is mode told words c q file old new outcome.SinkFault asks held h
-ends_answers mode told words c q file old new outcome.Memory asks held h = inr (run_is mode told words c q file old new outcome.Memory asks held h)
-ends_answers mode told words c q file old new outcome.Usage asks held h = absurd h
-ends_answers mode told words c q file old new (outcome.FileFault name) asks held h = absurd h
-ends_answers mode told words c q file old new (outcome.TooLong name taken) asks held h = absurd h
-ends_answers mode told words c q file old new outcome.NotBuilt asks held h = absurd h
-ends_answers mode told words c q file old new (outcome.Syntax place deep) asks held h = absurd h
-
 no_text : (old new : Option (List ℕ)) → new ≡ old → new ≡ appended old (take 0 (yield_text []))
 no_text old new h = h ∙ sym (appended-nil old)
 
-pub ends_writes : (mode : LineMode) (c : Command) (q : Query) (file : List ℕ) (old new : Option (List ℕ)) (o : Outcome) → EndsAs mode c q file old new o → Writes old new o
-ends_writes mode c q file old new outcome.Done h = (h.0, h.2)
-ends_writes mode c q file old new (outcome.Line name number cause) h = h.5
-ends_writes mode c q file old new (outcome.TooMany name number) h = h.5
-ends_writes mode c q file old new (outcome.Fault fault) h = h.3
-ends_writes mode c q file old new outcome.SinkFault h = (h.0, h.1, h.3)
-ends_writes mode c q file old new outcome.Memory (inl h) = ([], 0, no_text old new h)
-ends_writes mode c q file old new outcome.Memory (inr h) = (h.0, h.1, h.3)
-ends_writes mode c q file old new outcome.Usage h = absurd h
-ends_writes mode c q file old new (outcome.FileFault name) h = absurd h
-ends_writes mode c q file old new (outcome.TooLong name taken) h = absurd h
-ends_writes mode c q file old new outcome.NotBuilt h = absurd h
-ends_writes mode c q file old new (outcome.Syntax place deep) h = absurd h
+-- ---- the run behind a script
 
-pub ends_causes : (mode : LineMode) (c : Command) (q : Query) (file : List ℕ) (old new : Option (List ℕ)) (files files' out out' : ℕ) (o : Outcome) → EndsAs mode c q file old new o → files' ≡ files → RunCauses out out' o → Causes files files' out out' o
-ends_causes mode c q file old new files files' out out' outcome.Done h same causes = (same, causes)
-ends_causes mode c q file old new files files' out out' (outcome.Line name number cause) h same causes = (same, causes)
-ends_causes mode c q file old new files files' out out' (outcome.TooMany name number) h same causes = (same, causes)
-ends_causes mode c q file old new files files' out out' (outcome.Fault fault) h same causes = (same, causes)
-ends_causes mode c q file old new files files' out out' outcome.SinkFault h same causes = (same, causes)
-ends_causes mode c q file old new files files' out out' outcome.Memory h same causes = tt
-ends_causes mode c q file old new files files' out out' outcome.Usage h same causes = absurd h
-ends_causes mode c q file old new files files' out out' (outcome.FileFault name) h same causes = absurd h
-ends_causes mode c q file old new files files' out out' (outcome.TooLong name taken) h same causes = absurd h
-ends_causes mode c q file old new files files' out out' outcome.NotBuilt h same causes = absurd h
-ends_causes mode c q file old new files files' out out' (outcome.Syntax place deep) h same causes = absurd h
+-- a query over the points of the files is the run over the files
+pub data_ends : (mode : LineMode) (told : Told) (c : Command) (q : Query) (stored : List StoredPoint) (old new : Option (List ℕ)) (o : Outcome) → FilesRead mode told c.loads [] stored
+    → DataAnswers q (buckets_of c.loads) stored old new o → EndsAs mode told c q old new o
+data_ends mode told c q stored old new outcome.Done read h = (h.0, record { stored = stored; read = read; run = h.1 }, h.2)
+data_ends mode told c q stored old new (outcome.FileFault name) read h = absurd h
+data_ends mode told c q stored old new (outcome.TooLong name taken) read h = absurd h
+data_ends mode told c q stored old new (outcome.Line name number cause) read h = absurd h
+data_ends mode told c q stored old new (outcome.TooMany name number) read h = absurd h
+data_ends mode told c q stored old new (outcome.Fault fault) read h = (record { stored = stored; read = read; run = h.0 }, h.1)
+data_ends mode told c q stored old new outcome.SinkFault read h = (h.0, h.1, record { stored = stored; read = read; run = h.2 }, h.3)
+data_ends mode told c q stored old new outcome.Memory read (inl h) = inl h
+data_ends mode told c q stored old new outcome.Memory read (inr h) = inr (h.0, h.1, record { stored = stored; read = read; run = h.2 }, h.3)
+data_ends mode told c q stored old new outcome.Usage read h = absurd h
+data_ends mode told c q stored old new outcome.NotBuilt read h = absurd h
+data_ends mode told c q stored old new (outcome.Syntax place deep) read h = absurd h
 
-pub ends_names : (mode : LineMode) (words : List (List ℕ)) (c : Command) (q : Query) (file : List ℕ) (old new : Option (List ℕ)) (o : Outcome) → IsCommand words c → EndsAs mode c q file old new o → NamesFile words o
-ends_names mode words c q file old new outcome.Done is h = tt
-ends_names mode words c q file old new (outcome.Line name number cause) is h = (c, is, h.4)
-ends_names mode words c q file old new (outcome.TooMany name number) is h = (c, is, h.4)
-ends_names mode words c q file old new (outcome.Fault fault) is h = tt
-ends_names mode words c q file old new outcome.SinkFault is h = tt
-ends_names mode words c q file old new outcome.Memory is h = tt
-ends_names mode words c q file old new outcome.Usage is h = absurd h
-ends_names mode words c q file old new (outcome.FileFault name) is h = absurd h
-ends_names mode words c q file old new (outcome.TooLong name taken) is h = absurd h
-ends_names mode words c q file old new outcome.NotBuilt is h = absurd h
-ends_names mode words c q file old new (outcome.Syntax place deep) is h = absurd h
+pub data_writes : (q : Query) (buckets : List (List ℕ)) (stored : List StoredPoint) (old new : Option (List ℕ)) (o : Outcome) → DataAnswers q buckets stored old new o → Writes old new o
+data_writes q buckets stored old new outcome.Done h = (h.0, h.2)
+data_writes q buckets stored old new (outcome.FileFault name) h = absurd h
+data_writes q buckets stored old new (outcome.TooLong name taken) h = absurd h
+data_writes q buckets stored old new (outcome.Line name number cause) h = absurd h
+data_writes q buckets stored old new (outcome.TooMany name number) h = absurd h
+data_writes q buckets stored old new (outcome.Fault fault) h = h.1
+data_writes q buckets stored old new outcome.SinkFault h = (h.0, h.1, h.3)
+data_writes q buckets stored old new outcome.Memory (inl h) = ([], 0, no_text old new h)
+data_writes q buckets stored old new outcome.Memory (inr h) = (h.0, h.1, h.3)
+data_writes q buckets stored old new outcome.Usage h = absurd h
+data_writes q buckets stored old new outcome.NotBuilt h = absurd h
+data_writes q buckets stored old new (outcome.Syntax place deep) h = absurd h
 
--- ---- a load that is refused as an answer of the whole
+pub data_causes : (q : Query) (buckets : List (List ℕ)) (stored : List StoredPoint) (old new : Option (List ℕ)) (files files' out out' : ℕ) (o : Outcome) → DataAnswers q buckets stored old new o → files' ≡ files → RunCauses out out' o → Causes files files' out out' o
+data_causes q buckets stored old new files files' out out' outcome.Done h same causes = (same, causes)
+data_causes q buckets stored old new files files' out out' (outcome.FileFault name) h same causes = absurd h
+data_causes q buckets stored old new files files' out out' (outcome.TooLong name taken) h same causes = absurd h
+data_causes q buckets stored old new files files' out out' (outcome.Line name number cause) h same causes = absurd h
+data_causes q buckets stored old new files files' out out' (outcome.TooMany name number) h same causes = absurd h
+data_causes q buckets stored old new files files' out out' (outcome.Fault fault) h same causes = (same, causes)
+data_causes q buckets stored old new files files' out out' outcome.SinkFault h same causes = (same, causes)
+data_causes q buckets stored old new files files' out out' outcome.Memory h same causes = tt
+data_causes q buckets stored old new files files' out out' outcome.Usage h same causes = absurd h
+data_causes q buckets stored old new files files' out out' outcome.NotBuilt h same causes = absurd h
+data_causes q buckets stored old new files files' out out' (outcome.Syntax place deep) h same causes = absurd h
 
-pub file_answers : (mode : LineMode) (told : Told) (words : List (List ℕ)) (name : List ℕ) (limit : ℕ) (old : Option (List ℕ)) (o : Outcome) → Reaches told words name limit → FileAnswers told name limit (Err o) → Answers mode told words old old o
-file_answers mode told words name limit old (outcome.FileFault n) at h = (limit, subst (λ m. Reaches told words m limit) (sym h) at, refl)
-file_answers mode told words name limit old (outcome.TooLong n taken) at h = (limit, subst (λ m. Reaches told words m limit) (sym h.1) at, subst (λ m. IsLong told m limit) (sym h.1) h.0, h.2, refl)
-file_answers mode told words name limit old outcome.Memory at h = inl refl
-file_answers mode told words name limit old outcome.Done at h = absurd h
-file_answers mode told words name limit old outcome.Usage at h = absurd h
-file_answers mode told words name limit old outcome.NotBuilt at h = absurd h
-file_answers mode told words name limit old (outcome.Syntax place deep) at h = absurd h
-file_answers mode told words name limit old (outcome.Line n number cause) at h = absurd h
-file_answers mode told words name limit old (outcome.TooMany n number) at h = absurd h
-file_answers mode told words name limit old (outcome.Fault fault) at h = absurd h
-file_answers mode told words name limit old outcome.SinkFault at h = absurd h
+pub data_names : (q : Query) (buckets : List (List ℕ)) (stored : List StoredPoint) (old new : Option (List ℕ)) (words : List (List ℕ)) (o : Outcome) → DataAnswers q buckets stored old new o → NamesFile words o
+data_names q buckets stored old new words outcome.Done h = tt
+data_names q buckets stored old new words (outcome.FileFault name) h = absurd h
+data_names q buckets stored old new words (outcome.TooLong name taken) h = absurd h
+data_names q buckets stored old new words (outcome.Line name number cause) h = absurd h
+data_names q buckets stored old new words (outcome.TooMany name number) h = absurd h
+data_names q buckets stored old new words (outcome.Fault fault) h = tt
+data_names q buckets stored old new words outcome.SinkFault h = tt
+data_names q buckets stored old new words outcome.Memory h = tt
+data_names q buckets stored old new words outcome.Usage h = absurd h
+data_names q buckets stored old new words outcome.NotBuilt h = absurd h
+data_names q buckets stored old new words (outcome.Syntax place deep) h = absurd h
+
+-- so is a load of the files that stops
+stopped : (mode : LineMode) (told : Told) (c : Command) (stop : LoadsStop) (name : List ℕ) (why : FileStop) → StopsFiles mode told c.loads [] stop.place stop.stop → (stop.stop ≡ why) × NamesAt c.loads stop.place name → Stops mode told c name why
+stopped mode told c stop name why at h = record { place = stop.place; at = subst (StopsFiles mode told c.loads [] stop.place) h.0 at; names = h.1 }
+
+pub stop_ends : (mode : LineMode) (told : Told) (c : Command) (q : Query) (stop : LoadsStop) (old : Option (List ℕ)) (o : Outcome) → StopsFiles mode told c.loads [] stop.place stop.stop → StopAnswers stop c.loads o → EndsAs mode told c q old old o
+stop_ends mode told c q stop old outcome.Done at h = absurd h
+stop_ends mode told c q stop old (outcome.FileFault name) at h = (stopped mode told c stop name file_stop.Failed at h, refl)
+stop_ends mode told c q stop old (outcome.TooLong name taken) at h = (stopped mode told c stop name (file_stop.TooLong taken) at h, refl)
+stop_ends mode told c q stop old (outcome.Line name number cause) at h = (stopped mode told c stop name (file_stop.Line number cause) at h, refl)
+stop_ends mode told c q stop old (outcome.TooMany name number) at h = (stopped mode told c stop name (file_stop.TooMany number) at h, refl)
+stop_ends mode told c q stop old (outcome.Fault fault) at h = absurd h
+stop_ends mode told c q stop old outcome.SinkFault at h = absurd h
+stop_ends mode told c q stop old outcome.Memory at h = inl refl
+stop_ends mode told c q stop old outcome.Usage at h = absurd h
+stop_ends mode told c q stop old outcome.NotBuilt at h = absurd h
+stop_ends mode told c q stop old (outcome.Syntax place deep) at h = absurd h
+
+pub stop_writes : (stop : LoadsStop) (loads : List Load) (old : Option (List ℕ)) (o : Outcome) → StopAnswers stop loads o → Writes old old o
+stop_writes stop loads old outcome.Done h = absurd h
+stop_writes stop loads old (outcome.FileFault name) h = refl
+stop_writes stop loads old (outcome.TooLong name taken) h = refl
+stop_writes stop loads old (outcome.Line name number cause) h = refl
+stop_writes stop loads old (outcome.TooMany name number) h = refl
+stop_writes stop loads old (outcome.Fault fault) h = absurd h
+stop_writes stop loads old outcome.SinkFault h = absurd h
+stop_writes stop loads old outcome.Memory h = ([], 0, no_text old old refl)
+stop_writes stop loads old outcome.Usage h = absurd h
+stop_writes stop loads old outcome.NotBuilt h = absurd h
+stop_writes stop loads old (outcome.Syntax place deep) h = absurd h
+
+pub stop_causes : (stop : LoadsStop) (loads : List Load) (files files' out : ℕ) (o : Outcome) → StopCauses files files' stop.stop → StopAnswers stop loads o → Causes files files' out out o
+stop_causes stop loads files files' out outcome.Done causes h = absurd h
+stop_causes stop loads files files' out (outcome.FileFault name) causes h = (subst (StopCauses files files') h.0 causes, refl)
+stop_causes stop loads files files' out (outcome.TooLong name taken) causes h = (subst (StopCauses files files') h.0 causes, refl)
+stop_causes stop loads files files' out (outcome.Line name number cause) causes h = (subst (StopCauses files files') h.0 causes, refl)
+stop_causes stop loads files files' out (outcome.TooMany name number) causes h = (subst (StopCauses files files') h.0 causes, refl)
+stop_causes stop loads files files' out (outcome.Fault fault) causes h = absurd h
+stop_causes stop loads files files' out outcome.SinkFault causes h = absurd h
+stop_causes stop loads files files' out outcome.Memory causes h = tt
+stop_causes stop loads files files' out outcome.Usage causes h = absurd h
+stop_causes stop loads files files' out outcome.NotBuilt causes h = absurd h
+stop_causes stop loads files files' out (outcome.Syntax place deep) causes h = absurd h
+
+pub stop_names : (stop : LoadsStop) (words : List (List ℕ)) (c : Command) (o : Outcome) → IsCommand words c → StopAnswers stop c.loads o → NamesFile words o
+stop_names stop words c outcome.Done is h = absurd h
+stop_names stop words c (outcome.FileFault name) is h = inr (c, is, (stop.place, h.1))
+stop_names stop words c (outcome.TooLong name taken) is h = inr (c, is, (stop.place, h.1))
+stop_names stop words c (outcome.Line name number cause) is h = (c, is, (stop.place, h.1))
+stop_names stop words c (outcome.TooMany name number) is h = (c, is, (stop.place, h.1))
+stop_names stop words c (outcome.Fault fault) is h = absurd h
+stop_names stop words c outcome.SinkFault is h = absurd h
+stop_names stop words c outcome.Memory is h = tt
+stop_names stop words c outcome.Usage is h = absurd h
+stop_names stop words c outcome.NotBuilt is h = absurd h
+stop_names stop words c (outcome.Syntax place deep) is h = absurd h
+
+-- the run over the files is what the whole answers
+run_is : (mode : LineMode) (told : Told) (words : List (List ℕ)) (c : Command) (q : Query) (old new : Option (List ℕ)) (o : Outcome) → Asks told words c q → EndsAs mode told c q old new o → Runs mode told words old new o
+run_is mode told words c q old new o asks h = record { command = c; query = q; asks = asks; ends = h }
+
+pub ends_answers : (mode : LineMode) (told : Told) (words : List (List ℕ)) (c : Command) (q : Query) (old new : Option (List ℕ)) (o : Outcome) → Asks told words c q → EndsAs mode told c q old new o → Answers mode told words old new o
+ends_answers mode told words c q old new outcome.Done asks h = run_is mode told words c q old new outcome.Done asks h
+ends_answers mode told words c q old new (outcome.FileFault name) asks h = inr (run_is mode told words c q old new (outcome.FileFault name) asks h)
+ends_answers mode told words c q old new (outcome.TooLong name taken) asks h = inr (run_is mode told words c q old new (outcome.TooLong name taken) asks h)
+ends_answers mode told words c q old new (outcome.Line name number cause) asks h = run_is mode told words c q old new (outcome.Line name number cause) asks h
+ends_answers mode told words c q old new (outcome.TooMany name number) asks h = run_is mode told words c q old new (outcome.TooMany name number) asks h
+ends_answers mode told words c q old new (outcome.Fault fault) asks h = run_is mode told words c q old new (outcome.Fault fault) asks h
+ends_answers mode told words c q old new outcome.SinkFault asks h = run_is mode told words c q old new outcome.SinkFault asks h
+ends_answers mode told words c q old new outcome.Memory asks h = inr (run_is mode told words c q old new outcome.Memory asks h)
+ends_answers mode told words c q old new outcome.Usage asks h = absurd h
+ends_answers mode told words c q old new outcome.NotBuilt asks h = absurd h
+ends_answers mode told words c q old new (outcome.Syntax place deep) asks h = absurd h
+
+-- files that were read, and a query over them
+pub loaded_answers : (mode : LineMode) (told : Told) (words : List (List ℕ)) (c : Command) (q : Query) (loads : List Load) (kept : Kept) (old new : Option (List ℕ)) (o : Outcome) → loads ≡ c.loads → Asks told words c q
+    → FilesLoad mode told (buckets_of loads) loads [] kept (Ok tt) → ((buckets : List (List ℕ)) (stored : List StoredPoint) → StandsFor kept buckets stored → DataAnswers q buckets stored old new o) → Answers mode told words old new o
+loaded_answers mode told words c q loads kept old new o e asks h ends =
+    let loaded = subst (λ ls. FilesLoad mode told (buckets_of ls) ls [] kept (Ok tt)) e h in
+    ends_answers mode told words c q old new o asks (data_ends mode told c q loaded.0 old new o loaded.1 (ends (buckets_of c.loads) loaded.0 loaded.2))
+
+-- files of which one stops the load
+pub stopped_answers : (mode : LineMode) (told : Told) (words : List (List ℕ)) (c : Command) (q : Query) (loads : List Load) (stop : LoadsStop) (old : Option (List ℕ)) (o : Outcome) → loads ≡ c.loads → Asks told words c q
+    → StopsFiles mode told loads [] stop.place stop.stop → StopAnswers stop loads o → Answers mode told words old old o
+stopped_answers mode told words c q loads stop old o e asks at h =
+    ends_answers mode told words c q old old o asks
+    (stop_ends mode told c q stop old o (subst (λ ls. StopsFiles mode told ls [] stop.place stop.stop) e at) (subst (λ ls. StopAnswers stop ls o) e h))
+
+-- ---- a script that is refused as an answer of the whole
+
+pub file_answers : (mode : LineMode) (told : Told) (words : List (List ℕ)) (c : Command) (old : Option (List ℕ)) (o : Outcome) → IsCommand words c → FileAnswers told c.script MOST_SCRIPT_BYTES (Err o) → Answers mode told words old old o
+file_answers mode told words c old outcome.Done is h = absurd h
+file_answers mode told words c old (outcome.FileFault name) is h = inl ((c, is, h), refl)
+file_answers mode told words c old (outcome.TooLong name taken) is h = inl ((c, is, h.1), subst (λ n. IsLong told n MOST_SCRIPT_BYTES) (sym h.1) h.0, h.2, refl)
+file_answers mode told words c old (outcome.Line name number cause) is h = absurd h
+file_answers mode told words c old (outcome.TooMany name number) is h = absurd h
+file_answers mode told words c old (outcome.Fault fault) is h = absurd h
+file_answers mode told words c old outcome.SinkFault is h = absurd h
+file_answers mode told words c old outcome.Memory is h = inl refl
+file_answers mode told words c old outcome.Usage is h = absurd h
+file_answers mode told words c old outcome.NotBuilt is h = absurd h
+file_answers mode told words c old (outcome.Syntax place deep) is h = absurd h
 
 pub file_causes : (name : List ℕ) (limit files files' out : ℕ) (o : Outcome) → FileCauses name limit files files' (Err o) → Causes files files' out out o
+file_causes name limit files files' out outcome.Done h = absurd h
 file_causes name limit files files' out (outcome.FileFault n) h = (h.0, refl)
 file_causes name limit files files' out (outcome.TooLong n taken) h = (h.0, refl)
-file_causes name limit files files' out outcome.Memory h = tt
-file_causes name limit files files' out outcome.Done h = absurd h
-file_causes name limit files files' out outcome.Usage h = absurd h
-file_causes name limit files files' out outcome.NotBuilt h = absurd h
-file_causes name limit files files' out (outcome.Syntax place deep) h = absurd h
 file_causes name limit files files' out (outcome.Line n number cause) h = absurd h
 file_causes name limit files files' out (outcome.TooMany n number) h = absurd h
 file_causes name limit files files' out (outcome.Fault fault) h = absurd h
 file_causes name limit files files' out outcome.SinkFault h = absurd h
+file_causes name limit files files' out outcome.Memory h = tt
+file_causes name limit files files' out outcome.Usage h = absurd h
+file_causes name limit files files' out outcome.NotBuilt h = absurd h
+file_causes name limit files files' out (outcome.Syntax place deep) h = absurd h
 
 pub file_writes : (name : List ℕ) (limit files files' : ℕ) (old : Option (List ℕ)) (o : Outcome) → FileCauses name limit files files' (Err o) → Writes old old o
+file_writes name limit files files' old outcome.Done h = absurd h
 file_writes name limit files files' old (outcome.FileFault n) h = refl
 file_writes name limit files files' old (outcome.TooLong n taken) h = refl
-file_writes name limit files files' old outcome.Memory h = ([], 0, no_text old old refl)
-file_writes name limit files files' old outcome.Done h = absurd h
-file_writes name limit files files' old outcome.Usage h = refl
-file_writes name limit files files' old outcome.NotBuilt h = refl
-file_writes name limit files files' old (outcome.Syntax place deep) h = refl
 file_writes name limit files files' old (outcome.Line n number cause) h = refl
 file_writes name limit files files' old (outcome.TooMany n number) h = refl
 file_writes name limit files files' old (outcome.Fault fault) h = refl
 file_writes name limit files files' old outcome.SinkFault h = absurd h
+file_writes name limit files files' old outcome.Memory h = ([], 0, no_text old old refl)
+file_writes name limit files files' old outcome.Usage h = refl
+file_writes name limit files files' old outcome.NotBuilt h = refl
+file_writes name limit files files' old (outcome.Syntax place deep) h = refl
 
-pub file_names : (words : List (List ℕ)) (c : Command) (name : List ℕ) (limit files files' : ℕ) (o : Outcome) → IsCommand words c → ((name ≡ c.script) ⊎ (name ≡ c.file)) → FileCauses name limit files files' (Err o) → NamesFile words o
-file_names words c name limit files files' (outcome.FileFault n) is named h = (c, is, subst (λ m. (m ≡ c.script) ⊎ (m ≡ c.file)) (sym h.1) named)
-file_names words c name limit files files' (outcome.TooLong n taken) is named h = (c, is, subst (λ m. (m ≡ c.script) ⊎ (m ≡ c.file)) (sym h.1) named)
-file_names words c name limit files files' outcome.Memory is named h = tt
-file_names words c name limit files files' outcome.Done is named h = absurd h
-file_names words c name limit files files' outcome.Usage is named h = absurd h
-file_names words c name limit files files' outcome.NotBuilt is named h = absurd h
-file_names words c name limit files files' (outcome.Syntax place deep) is named h = absurd h
-file_names words c name limit files files' (outcome.Line n number cause) is named h = absurd h
-file_names words c name limit files files' (outcome.TooMany n number) is named h = absurd h
-file_names words c name limit files files' (outcome.Fault fault) is named h = absurd h
-file_names words c name limit files files' outcome.SinkFault is named h = absurd h
+pub file_names : (words : List (List ℕ)) (c : Command) (limit files files' : ℕ) (o : Outcome) → IsCommand words c → FileCauses c.script limit files files' (Err o) → NamesFile words o
+file_names words c limit files files' outcome.Done is h = absurd h
+file_names words c limit files files' (outcome.FileFault name) is h = inl (c, is, h.1)
+file_names words c limit files files' (outcome.TooLong name taken) is h = inl (c, is, h.1)
+file_names words c limit files files' (outcome.Line name number cause) is h = absurd h
+file_names words c limit files files' (outcome.TooMany name number) is h = absurd h
+file_names words c limit files files' (outcome.Fault fault) is h = absurd h
+file_names words c limit files files' outcome.SinkFault is h = absurd h
+file_names words c limit files files' outcome.Memory is h = tt
+file_names words c limit files files' outcome.Usage is h = absurd h
+file_names words c limit files files' outcome.NotBuilt is h = absurd h
+file_names words c limit files files' (outcome.Syntax place deep) is h = absurd h
 
 -- what memory gives up at any moment
 pub memory_writes : (old : Option (List ℕ)) → Writes old old outcome.Memory
@@ -231,16 +235,18 @@ memory_writes old = ([], 0, no_text old old refl)
 
 pub forget_answers : (mode : LineMode) (told : Told) (words : List (List ℕ)) (old new : Option (List ℕ)) (o : Outcome) → Answers mode told words old new o → Answers mode told words old new outcome.Memory
 forget_answers mode told words old new outcome.Usage h = inl h.1
-forget_answers mode told words old new (outcome.FileFault name) h = inl h.2
-forget_answers mode told words old new (outcome.TooLong name taken) h = inl h.4
+forget_answers mode told words old new (outcome.FileFault name) (inl h) = inl h.1
+forget_answers mode told words old new (outcome.FileFault name) (inr h) = inl h.ends.1
+forget_answers mode told words old new (outcome.TooLong name taken) (inl h) = inl h.3
+forget_answers mode told words old new (outcome.TooLong name taken) (inr h) = inl h.ends.1
 forget_answers mode told words old new outcome.NotBuilt h = inl h.1
 forget_answers mode told words old new (outcome.Syntax place deep) h = inl h.1
 forget_answers mode told words old new outcome.Memory h = h
-forget_answers mode told words old new (outcome.Line name number cause) h = inl h.ends.5
-forget_answers mode told words old new (outcome.TooMany name number) h = inl h.ends.5
-forget_answers mode told words old new (outcome.Fault fault) h = inl h.ends.3
-forget_answers mode told words old new outcome.SinkFault h = inr (run_is mode told words h.command h.query h.file old new outcome.Memory h.asks h.data_file (inr h.ends))
-forget_answers mode told words old new outcome.Done h = inr (run_is mode told words h.command h.query h.file old new outcome.Memory h.asks h.data_file
+forget_answers mode told words old new (outcome.Line name number cause) h = inl h.ends.1
+forget_answers mode told words old new (outcome.TooMany name number) h = inl h.ends.1
+forget_answers mode told words old new (outcome.Fault fault) h = inl h.ends.1
+forget_answers mode told words old new outcome.SinkFault h = inr (run_is mode told words h.command h.query old new outcome.Memory h.asks (inr h.ends))
+forget_answers mode told words old new outcome.Done h = inr (run_is mode told words h.command h.query old new outcome.Memory h.asks
     (inr (h.ends.0, length (yield_text h.ends.0), h.ends.1, h.ends.2 ∙ ap (appended old) (sym (take-length (yield_text h.ends.0))))))
 
 pub forget_writes : (old new : Option (List ℕ)) (o : Outcome) → Writes old new o → Writes old new outcome.Memory
@@ -255,21 +261,6 @@ forget_writes old new (outcome.Syntax place deep) h = ([], 0, no_text old new h)
 forget_writes old new (outcome.Line name number cause) h = ([], 0, no_text old new h)
 forget_writes old new (outcome.TooMany name number) h = ([], 0, no_text old new h)
 forget_writes old new (outcome.Fault fault) h = ([], 0, no_text old new h)
-
--- ---- the store of a run
-
-same_as_itself : (text : List ℕ) → same_text text text ≡ true
-same_as_itself text = nat_list_eq_equiv.refl text
-
--- a store with the bucket and no points is ready for a load
-pub new_is_ready : (bucket : List ℕ) (kept : Kept) → StandsFor kept (bucket ∷ []) [] → IsReady kept bucket
-new_is_ready bucket kept stands = record {
-  buckets = bucket ∷ [];
-  stored = [];
-  stands = stands;
-  added = rw (stands.buckets_are, same_as_itself bucket) refl;
-  few = rw stands.puts_are (omega arith);
-}
 
 -- ---- the answer that was told
 

@@ -1,51 +1,45 @@
 -- The answers exclude each other, but for those of the devices and of memory.
-use Rattle.fx_line.specs.declared.line.LineMode.{LineMode}
-use Rattle.std.proofs.Common.{◌≡◌, ℕ, ◌+◌, ◌<◌, ◌≤◌, Bool, ◌⊎◌, inl, inr, List, [], ◌∷◌, length, Option, Some, refl, sym, ◌∙◌, ap, subst, arith}
+use Rattle.std.proofs.Common.{◌≡◌, ℕ, ◌+◌, Bool, ◌⊎◌, inl, inr, List, [], ◌∷◌, Option, refl, sym, ◌∙◌, ap, subst}
 use Rattle.fx_base.specs.Outside.{Told}
 use Rattle.fx_base.specs.declared.place.Place.{Place}
+use Rattle.fx_line.specs.declared.line.LineMode.{LineMode}
+use Rattle.fx_load.specs.declared.loads.Load.{Load}
+use Rattle.fx_load.specs.Loads.{IsTold, IsLong}
+use Rattle.fx_load.proofs.BytesLemmas.{same_cut}
+use Rattle.fx_load.proofs.LoadsOnce.{same_told, long_or_told}
 use Rattle.fx_top.specs.declared.command.Command.{Command}
 use Rattle.fx_top.specs.declared.outcome.Outcome.{Outcome}
 use Rattle.fx_top.specs.declared.outcome.Outcome.TheVariants as outcome
 use Rattle.fx_top.specs.declared.query.Query.{Query}
-use Rattle.fx_top.specs.declared.run.TheConstants.{MOST_SCRIPT_BYTES, MOST_FILE_BYTES}
-use Rattle.fx_top.specs.Command.{IsLoad, IsCommand}
+use Rattle.fx_top.specs.declared.run.TheConstants.{MOST_SCRIPT_BYTES}
+use Rattle.fx_top.specs.Command.{AreLoads, IsCommand}
 use Rattle.fx_top.specs.Syntax.{IsSyntax, IsScript, IsNotBuilt}
-use Rattle.fx_top.specs.Answer.{Answers, Asks, IsTold, IsLong, IsSettled, Reaches, Runs}
-use Rattle.fx_load.proofs.BytesLemmas.{same_cut}
-use Rattle.fx_top.proofs.FileOnce.{FileEnds, file_ends, same_end}
+use Rattle.fx_top.specs.Answer.{Answers, IsSettled, Runs}
+use Rattle.fx_top.proofs.RunOnce.{RunEnds, run_ends, same_run}
 use Rattle.fx_top.proofs.ScriptOnce.{same_syntax, syntax_or_tree, same_script, script_or_not_built}
 
--- ---- the words and the files
+-- ---- the words
+
+same_loads : (words : List (List ℕ)) (a b : List Load) → AreLoads words a → AreLoads words b → a ≡ b
+same_loads [] [] [] g h = refl
+same_loads [] [] (y ∷ b) g h = absurd h
+same_loads [] (x ∷ a) b g h = absurd g
+same_loads (word ∷ words) [] b g h = absurd g
+same_loads (word ∷ words) (x ∷ a) [] g h = absurd h
+same_loads (word ∷ words) (x ∷ a) (y ∷ b) g h =
+    let parts = same_cut 61 x.bucket y.bucket x.file y.file g.0.loads.cut h.0.loads.cut (sym g.0.loads.spelled ∙ h.0.loads.spelled) in
+    let rest = same_loads words a b g.1 h.1 in
+    λ i. record { bucket = parts.0 i; file = parts.1 i } ∷ rest i
 
 same_command : (words : List (List ℕ)) (c d : Command) → IsCommand words c → IsCommand words d → c ≡ d
 same_command words c d g h =
     let scripts : g.script ≡ h.script = cc (g.spelled, h.spelled) in
-    let loads : g.load ≡ h.load = cc (g.spelled, h.spelled) in
-    let parts = same_cut 61 c.bucket d.bucket c.file d.file g.run.loads.cut h.run.loads.cut (sym g.run.loads.spelled ∙ loads ∙ h.run.loads.spelled) in
+    let loads : g.loads ≡ h.loads = cc (g.spelled, h.spelled) in
     let names : c.script ≡ d.script = g.run.named ∙ scripts ∙ sym h.run.named in
-    λ i. record { script = names i; bucket = parts.0 i; file = parts.1 i }
-
-same_told : (told : Told) (name : List ℕ) (limit : ℕ) (a b : List ℕ) → IsTold told name limit a → IsTold told name limit b → a ≡ b
-same_told told name limit a b g h = cc (g.bytes_are, h.bytes_are)
-
-long_or_told : (told : Told) (name : List ℕ) (limit : ℕ) (bytes : List ℕ) → IsLong told name limit → IsTold told name limit bytes → ⊥
-long_or_told told name limit bytes g h =
-    let same : g.bytes ≡ bytes = cc (g.bytes_are, h.bytes_are) in
-    omega (arith, g.long, h.short, ap length same)
+    let files = same_loads h.loads c.loads d.loads (subst (λ ws. AreLoads ws c.loads) loads g.run.loads) h.run.loads in
+    λ i. record { script = names i; loads = files i }
 
 -- ---- an answer by what was looked at before it, stage by stage
-
--- past a query
-abbrev DataEnds : LineMode → Told → Command → Query → Outcome → Type 0
-DataEnds mode told c q o =
-    (IsLong told c.file MOST_FILE_BYTES × (o ≡ outcome.TooLong c.file (MOST_FILE_BYTES + 1))) ⊎ ((file : List ℕ) × IsTold told c.file MOST_FILE_BYTES file × FileEnds mode c q file o)
-
-same_data : (mode : LineMode) (told : Told) (c : Command) (q : Query) (o p : Outcome) → DataEnds mode told c q o → DataEnds mode told c q p → o ≡ p
-same_data mode told c q o p (inl g) (inl h) = g.1 ∙ sym h.1
-same_data mode told c q o p (inl g) (inr h) = absurd (long_or_told told c.file MOST_FILE_BYTES h.0 g.0 h.1)
-same_data mode told c q o p (inr g) (inl h) = absurd (long_or_told told c.file MOST_FILE_BYTES g.0 h.0 g.1)
-same_data mode told c q o p (inr g) (inr h) =
-    same_end mode c q h.0 o p (subst (λ file. FileEnds mode c q file o) (same_told told c.file MOST_FILE_BYTES g.0 h.0 g.1 h.1) g.2) h.2
 
 -- past a script's bytes
 record Fails (script : List ℕ) (o : Outcome) : Type 0 where
@@ -55,7 +49,7 @@ record Fails (script : List ℕ) (o : Outcome) : Type 0 where
   pub answer : o ≡ outcome.Syntax place deep
 
 abbrev TextEnds : LineMode → Told → Command → List ℕ → Outcome → Type 0
-TextEnds mode told c script o = Fails script o ⊎ ((IsNotBuilt script × (o ≡ outcome.NotBuilt)) ⊎ ((q : Query) × IsScript script q × DataEnds mode told c q o))
+TextEnds mode told c script o = Fails script o ⊎ ((IsNotBuilt script × (o ≡ outcome.NotBuilt)) ⊎ ((q : Query) × IsScript script q × RunEnds mode told c q o))
 
 same_failure : (script : List ℕ) (o p : Outcome) → Fails script o → Fails script p → o ≡ p
 same_failure script o p g h =
@@ -72,7 +66,7 @@ same_text_end mode told c script o p (inr (inl g)) (inr (inr h)) = absurd (scrip
 same_text_end mode told c script o p (inr (inr g)) (inl h) = absurd (syntax_or_tree script h.place.at h.deep g.1.tree h.fails g.1.has_tree)
 same_text_end mode told c script o p (inr (inr g)) (inr (inl h)) = absurd (script_or_not_built script g.0 g.1 h.0)
 same_text_end mode told c script o p (inr (inr g)) (inr (inr h)) =
-    same_data mode told c h.0 o p (subst (λ q. DataEnds mode told c q o) (same_script script g.0 h.0 g.1 h.1) g.2) h.2
+    same_run mode told c h.0 o p (subst (λ q. RunEnds mode told c q o) (same_script script g.0 h.0 g.1 h.1) g.2) h.2
 
 -- past the words
 abbrev ScriptEnds : LineMode → Told → Command → Outcome → Type 0
@@ -97,22 +91,15 @@ same_words_end mode told words o p (inr g) (inr h) = same_script_end mode told h
 
 -- ---- an answer that the words and the files settle ends so
 
-too_long : (mode : LineMode) (told : Told) (words : List (List ℕ)) (name : List ℕ) (limit taken : ℕ) → Reaches told words name limit → IsLong told name limit → taken ≡ limit + 1 → WordsEnd mode told words (outcome.TooLong name taken)
-too_long mode told words name limit taken (inl g) h e =
-    let long = subst (λ l. IsLong told g.0.script l) g.1.2 (subst (λ n. IsLong told n limit) g.1.1 h) in
-    inr (g.0, g.1.0, inl (long, λ i. outcome.TooLong (g.1.1 i) ((e ∙ ap (λ l. l + 1) g.1.2) i)))
-too_long mode told words name limit taken (inr g) h e =
-    let long = subst (λ l. IsLong told g.0.file l) g.2.2 (subst (λ n. IsLong told n limit) g.2.1 h) in
-    let asks : Asks told words g.0 g.1 = g.2.0 in
-    inr (g.0, asks.command, inr (asks.script, asks.script_file, inr (inr (g.1, asks.query, inl (long, λ i. outcome.TooLong (g.2.1 i) ((e ∙ ap (λ l. l + 1) g.2.2) i))))))
-
 ran : (mode : LineMode) (told : Told) (words : List (List ℕ)) (old new : Option (List ℕ)) (o : Outcome) → IsSettled o → Runs mode told words old new o → (c : Command) × IsCommand words c × ScriptEnds mode told c o
 ran mode told words old new o s h =
-    (h.command, h.asks.command, inr (h.asks.script, h.asks.script_file, inr (inr (h.query, h.asks.query, inr (h.file, h.data_file, file_ends mode h.command h.query h.file old new o s h.ends)))))
+    (h.command, h.asks.command, inr (h.asks.script, h.asks.script_file, inr (inr (h.query, h.asks.query, run_ends mode told h.command h.query old new o s h.ends))))
 
 words_end : (mode : LineMode) (told : Told) (words : List (List ℕ)) (old new : Option (List ℕ)) (o : Outcome) → IsSettled o → Answers mode told words old new o → WordsEnd mode told words o
 words_end mode told words old new outcome.Usage s h = inl (h.0, refl)
-words_end mode told words old new (outcome.TooLong name taken) s h = too_long mode told words name h.0 taken h.1 h.2 h.3
+words_end mode told words old new (outcome.TooLong name taken) s (inl h) =
+    inr (h.0.0, h.0.1, inl (subst (λ n. IsLong told n MOST_SCRIPT_BYTES) h.0.2 h.1, λ i. outcome.TooLong (h.0.2 i) (h.2 i)))
+words_end mode told words old new (outcome.TooLong name taken) s (inr h) = inr (ran mode told words old new (outcome.TooLong name taken) s h)
 words_end mode told words old new (outcome.Syntax place deep) s h =
     inr (h.0.command, h.0.is_command, inr (h.0.script, h.0.script_file, inl (record { place = place; deep = deep; fails = h.0.has; answer = refl })))
 words_end mode told words old new outcome.NotBuilt s h = inr (h.0.command, h.0.is_command, inr (h.0.script, h.0.script_file, inr (inl (h.0.has, refl))))

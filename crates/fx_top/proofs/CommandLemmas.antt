@@ -1,12 +1,15 @@
 -- The words of a command line.
-use Rattle.std.proofs.Common.{◌≡◌, ◌<◌, ◌≤◌, ℕ, ◌==◌, true, List, [], ◌∷◌, ◌++◌, length, Option, None, Some, arith, sym, ◌∙◌, refl, subst, get_or, Result, Ok, Err, IfOk, codes}
+use Rattle.std.proofs.Math.Seq.{take-length}
+use Rattle.std.proofs.Common.{◌≡◌, ◌<◌, ◌≤◌, ℕ, zero, suc, ◌+◌, ◌-◌, ◌==◌, true, List, [], ◌∷◌, ◌++◌, length, take, drop, ap, Option, None, Some, arith, sym, ◌∙◌, refl, subst, get_or, Result, Ok, Err, IfOk, codes}
 use Rattle.std.specs.Option.{MatchOption, IfSome, IfNone}
 use Rattle.std.specs.List.{position_or_len, before_first, after_first}
 use Rattle.fx_base.specs.declared.memory.Memory.{Memory}
 use denote.Ref.{Bor}
 use Rattle.std.proofs.lemmas.Bool.{eqb-true}
 use Rattle.fx_load.specs.Bytes.{IsFreeOf}
-use Rattle.fx_top.specs.Command.{IsLoad, IsRun, IsCommand}
+use Rattle.fx_load.specs.declared.loads.Load.{Load}
+use Rattle.std.proofs.lemmas.List.{take_more}
+use Rattle.fx_top.specs.Command.{AreLoads, IsLoad, IsLoadWord, IsRun, IsCommand}
 use Rattle.fx_top.specs.declared.command.Command.{Command}
 use Rattle.fx_load.proofs.BytesLemmas.{first_parts, none_first, same_cut, not_cut}
 
@@ -34,23 +37,48 @@ no_file word bucket file cut free none b f load = load.file_there (sym (same_cut
 pub uncut : (word : List ℕ) → IsFreeOf 61 word → (b f : List ℕ) → IsLoad word b f → ⊥
 uncut word free b f load = not_cut 61 b f (subst (IsFreeOf 61) load.spelled free)
 
--- three words are read by their places
-pub three : (words : List (List ℕ)) (command script load : List ℕ) → 3 ≤ length words → length words < 4 → command ≡ get_or words 0 command → script ≡ get_or words 1 script → load ≡ get_or words 2 load
-    → words ≡ command ∷ script ∷ load ∷ []
-three [] command script load low high e f g = absurd (omega arith)
-three (a ∷ []) command script load low high e f g = absurd (omega arith)
-three (a ∷ b ∷ []) command script load low high e f g = absurd (omega arith)
-three (a ∷ b ∷ d ∷ []) command script load low high e f g = rw (e, f, g) refl
-three (a ∷ b ∷ d ∷ x ∷ rest) command script load low high e f g = absurd (omega arith)
+-- the words of loads, one after another
+pub loads_push : (words : List (List ℕ)) (loads : List Load) (word : List ℕ) (l : Load) → AreLoads words loads → IsLoadWord word l → AreLoads (words ++ word ∷ []) (loads ++ l ∷ [])
+loads_push [] [] word l h one = (one, tt)
+loads_push [] (k ∷ loads) word l h one = absurd h
+loads_push (w ∷ words) [] word l h one = absurd h
+loads_push (w ∷ words) (k ∷ loads) word l h one = (h.0, loads_push words loads word l h.1 one)
+
+pub loads_on : (words : List (List ℕ)) (loads new : List Load) (i : ℕ) (word : List ℕ) (l : Load) → i < length words → word ≡ get_or words i word → new ≡ loads ++ l ∷ [] → AreLoads (take i words) loads → IsLoadWord word l → AreLoads (take (i + 1) words) new
+loads_on words loads new i word l within is e h one =
+    let longer : take i words ++ word ∷ [] ≡ take (i + 1) words = ap (λ w. take i words ++ w ∷ []) is ∙ sym (take_more words i word within) in
+    subst (AreLoads (take (i + 1) words)) (sym e) (subst (λ ws. AreLoads ws (loads ++ l ∷ [])) longer (loads_push (take i words) loads word l h one))
+
+-- a word that loads nothing
+pub no_loads : (words : List (List ℕ)) (i : ℕ) (word : List ℕ) → i < length words → word ≡ get_or words i word → ((l : Load) → IsLoadWord word l → ⊥) → (loads : List Load) → AreLoads words loads → ⊥
+no_loads [] i word within is none loads h = omega (arith, within)
+no_loads (w ∷ words) i word within is none [] h = h
+no_loads (w ∷ words) zero word within is none (l ∷ loads) h = none l (subst (λ x. IsLoadWord x l) (sym is) h.0)
+no_loads (w ∷ words) (suc i) word within is none (l ∷ loads) h = no_loads words i word (omega (arith, within)) is none loads h.1
+
+-- the words behind the first two
+abbrev pub behind_two : List (List ℕ) → List (List ℕ)
+behind_two words = take (length words - 2) (drop 2 words)
+
+two_less : (n : ℕ) → suc (suc n) - 2 ≡ n
+two_less n = omega arith
+
+-- two words are read by their places, and the others stand behind them
+pub two : (words : List (List ℕ)) (command script : List ℕ) → 2 ≤ length words → command ≡ get_or words 0 command → script ≡ get_or words 1 script → words ≡ command ∷ script ∷ behind_two words
+two [] command script long e f = absurd (omega (arith, long))
+two (a ∷ []) command script long e f = absurd (omega (arith, long))
+two (a ∷ b ∷ rest) command script long e f =
+    let same : rest ≡ take (length (a ∷ b ∷ rest) - 2) rest = sym (ap (λ n. take n rest) (two_less (length rest)) ∙ take-length rest) in
+    λ i. sym e i ∷ sym f i ∷ same i
 
 -- what is known of the words behind `run` is known of all words
-pub lifted : (words : List (List ℕ)) (script load : List ℕ) (r : Result (Option Command) Memory) → words ≡ codes "run" ∷ script ∷ load ∷ []
-    → IfOk r (λ o. MatchOption o ((c : Command) → IsRun script load c → ⊥) (λ c. IsRun script load c))
+pub lifted : (words : List (List ℕ)) (script : List ℕ) (loads : List (List ℕ)) (r : Result (Option Command) Memory) → words ≡ codes "run" ∷ script ∷ loads
+    → IfOk r (λ o. MatchOption o ((c : Command) → IsRun script loads c → ⊥) (λ c. IsRun script loads c))
     → IfOk r (λ o. MatchOption o ((c : Command) → IsCommand words c → ⊥) (λ c. IsCommand words c))
-lifted words script load (Err e) is h = tt
-lifted words script load (Ok None) is h = λ c k.
-    let same : codes "run" ∷ script ∷ load ∷ [] ≡ codes "run" ∷ k.script ∷ k.load ∷ [] = sym is ∙ k.spelled in
+lifted words script loads (Err e) is h = tt
+lifted words script loads (Ok None) is h = λ c k.
+    let same : codes "run" ∷ script ∷ loads ≡ codes "run" ∷ k.script ∷ k.loads = sym is ∙ k.spelled in
     let scripts : script ≡ k.script = cc in
-    let loads : load ≡ k.load = cc in
-    h c (rw (scripts, loads) k.run)
-lifted words script load (Ok (Some c)) is h = record { script = script; load = load; spelled = is; run = h }
+    let files : loads ≡ k.loads = cc in
+    h c (rw (scripts, files) k.run)
+lifted words script loads (Ok (Some c)) is h = record { script = script; loads = loads; spelled = is; run = h }

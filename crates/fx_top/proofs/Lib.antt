@@ -1,8 +1,9 @@
 pub mod ColumnKinds
 pub mod CommandLemmas
-pub mod FileOnce
+pub mod RunOnce
 pub mod QueryLemmas
 pub mod ScriptOnce
 pub mod SourceLemmas
 pub mod AnswerLemmas
 pub mod AnswerOnce
+pub mod StoreLemmas

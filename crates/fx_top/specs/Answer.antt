@@ -1,19 +1,24 @@
 -- What the answers of the top call say.
 use Rattle.fx_line.specs.declared.line.LineMode.{LineMode}
-use Rattle.std.specs.Prelude.{◌≡◌, ℕ, ◌+◌, ◌<◌, ◌≤◌, Bool, List, [], ◌∷◌, length, take, codes, Option, Some, Ok, Err, ◌⊎◌}
+use Rattle.std.specs.Prelude.{◌≡◌, ℕ, ◌+◌, Bool, List, [], ◌∷◌, fold, take, codes, Option, Some, Ok, Err, ◌⊎◌}
+use Rattle.std.specs.List.{slice_get}
 use Rattle.fx_base.specs.Outside.{Told, appended, Rose}
+use Rattle.fx_base.specs.declared.fault.Fault.{Fault}
 use Rattle.fx_data.specs.declared.table.Table.{Table}
 use Rattle.fx_line.specs.Stored.{StoredPoint}
+use Rattle.fx_series.specs.Store.{with_bucket}
 use Rattle.fx_csv.specs.Printed.{printed}
+use Rattle.fx_load.specs.declared.loads.Load.{Load}
+use Rattle.fx_load.specs.declared.loads.FileStop.{FileStop}
+use Rattle.fx_load.specs.declared.loads.FileStop.TheVariants as file_stop
+use Rattle.fx_load.specs.Loads.{IsTold, IsLong, FilesRead, StopsFiles}
 use Rattle.fx_top.specs.declared.command.Command.{Command}
 use Rattle.fx_top.specs.declared.query.Query.{Query}
 use Rattle.fx_top.specs.declared.outcome.Outcome.{Outcome}
 use Rattle.fx_top.specs.declared.outcome.Outcome.TheVariants as outcome
-use Rattle.fx_top.specs.declared.run.TheConstants.{MOST_SCRIPT_BYTES, MOST_FILE_BYTES}
-use Rattle.fx_load.specs.Bytes.{lines_of}
+use Rattle.fx_top.specs.declared.run.TheConstants.{MOST_SCRIPT_BYTES}
 use Rattle.fx_top.specs.Command.{IsCommand}
 use Rattle.fx_top.specs.Message.{line_of}
-use Rattle.fx_load.specs.Load.{Reads, StopsAt, IsCause, IsTooMany}
 use Rattle.fx_top.specs.Run.{run_of}
 use Rattle.fx_top.specs.Syntax.{IsScript, IsSyntax, IsNotBuilt}
 
@@ -21,37 +26,46 @@ use Rattle.fx_top.specs.Syntax.{IsScript, IsSyntax, IsNotBuilt}
 abbrev pub yield_text : List Table → List ℕ
 yield_text tables = printed (codes "_result") tables
 
--- the file's lines take no stored points to these, and the query over them yields these tables
-pub record Yields (mode : LineMode) (c : Command) (q : Query) (file : List ℕ) (tables : List Table) : Type 0 where
+-- the buckets that a run adds, in their order
+abbrev pub buckets_of : List Load → List (List ℕ)
+buckets_of loads = fold (λ buckets l. with_bucket buckets l.bucket) [] loads
+
+-- the files take no stored points to these, and the query over them yields these tables
+pub record Yields (mode : LineMode) (told : Told) (c : Command) (q : Query) (tables : List Table) : Type 0 where
   pub stored : List StoredPoint
-  pub read : Reads mode c.bucket (lines_of file) [] stored
-  pub run : run_of q (c.bucket ∷ []) stored ≡ Ok tables
+  pub read : FilesRead mode told c.loads [] stored
+  pub run : run_of q (buckets_of c.loads) stored ≡ Ok tables
 
--- the end of a run over a file, by what was written before and after it: the bytes written are those of evaluating the
--- query directly over all loaded points, or the named refusal or fault
-abbrev pub EndsAs : LineMode → Command → Query → List ℕ → Option (List ℕ) → Option (List ℕ) → Outcome → Type 0
-EndsAs mode c q file old new outcome.Done = (tables : List Table) × Yields mode c q file tables × (new ≡ appended old (yield_text tables))
-EndsAs mode c q file old new (outcome.Line name number cause) = (line : List ℕ) × (stored : List StoredPoint) × StopsAt mode c.bucket file [] number line stored × IsCause mode c.bucket line stored cause × (name ≡ c.file) × (new ≡ old)
-EndsAs mode c q file old new (outcome.TooMany name number) = (line : List ℕ) × (stored : List StoredPoint) × StopsAt mode c.bucket file [] number line stored × IsTooMany mode c.bucket line stored × (name ≡ c.file) × (new ≡ old)
-EndsAs mode c q file old new (outcome.Fault fault) = (stored : List StoredPoint) × Reads mode c.bucket (lines_of file) [] stored × (run_of q (c.bucket ∷ []) stored ≡ Err fault) × (new ≡ old)
-EndsAs mode c q file old new outcome.SinkFault = (tables : List Table) × (n : ℕ) × Yields mode c q file tables × (new ≡ appended old (take n (yield_text tables)))
-EndsAs mode c q file old new outcome.Memory = (new ≡ old) ⊎ ((tables : List Table) × (n : ℕ) × Yields mode c q file tables × (new ≡ appended old (take n (yield_text tables))))
-EndsAs mode c q file old new outcome.Usage = ⊥
-EndsAs mode c q file old new (outcome.FileFault name) = ⊥
-EndsAs mode c q file old new (outcome.TooLong name taken) = ⊥
-EndsAs mode c q file old new outcome.NotBuilt = ⊥
-EndsAs mode c q file old new (outcome.Syntax place deep) = ⊥
+-- the query over the stored points ends with this fault
+pub record Fails (mode : LineMode) (told : Told) (c : Command) (q : Query) (fault : Fault) : Type 0 where
+  pub stored : List StoredPoint
+  pub read : FilesRead mode told c.loads [] stored
+  pub run : run_of q (buckets_of c.loads) stored ≡ Err fault
 
--- a file is told to hold these bytes, within a limit
-pub record IsTold (told : Told) (name : List ℕ) (limit : ℕ) (bytes : List ℕ) : Type 0 where
-  pub bytes_are : told name ≡ Some bytes
-  pub short : length bytes ≤ limit
+-- the load at a place is of a file of this name
+abbrev pub NamesAt : List Load → ℕ → List ℕ → Type 0
+NamesAt loads place name = (l : Load) × (slice_get loads place ≡ Some l) × (name ≡ l.file)
 
--- a file is told to hold more bytes than a limit
-pub record IsLong (told : Told) (name : List ℕ) (limit : ℕ) : Type 0 where
-  pub bytes : List ℕ
-  pub bytes_are : told name ≡ Some bytes
-  pub long : limit < length bytes
+-- the first file that stops the load has this name, and this is why it does
+pub record Stops (mode : LineMode) (told : Told) (c : Command) (name : List ℕ) (stop : FileStop) : Type 0 where
+  pub place : ℕ
+  pub at : StopsFiles mode told c.loads [] place stop
+  pub names : NamesAt c.loads place name
+
+-- the end of a run over the command's files, by what was written before and after it: the bytes written are those of
+-- evaluating the query directly over all loaded points, or the named refusal or fault
+abbrev pub EndsAs : LineMode → Told → Command → Query → Option (List ℕ) → Option (List ℕ) → Outcome → Type 0
+EndsAs mode told c q old new outcome.Done = (tables : List Table) × Yields mode told c q tables × (new ≡ appended old (yield_text tables))
+EndsAs mode told c q old new (outcome.FileFault name) = Stops mode told c name file_stop.Failed × (new ≡ old)
+EndsAs mode told c q old new (outcome.TooLong name taken) = Stops mode told c name (file_stop.TooLong taken) × (new ≡ old)
+EndsAs mode told c q old new (outcome.Line name number cause) = Stops mode told c name (file_stop.Line number cause) × (new ≡ old)
+EndsAs mode told c q old new (outcome.TooMany name number) = Stops mode told c name (file_stop.TooMany number) × (new ≡ old)
+EndsAs mode told c q old new (outcome.Fault fault) = Fails mode told c q fault × (new ≡ old)
+EndsAs mode told c q old new outcome.SinkFault = (tables : List Table) × (n : ℕ) × Yields mode told c q tables × (new ≡ appended old (take n (yield_text tables)))
+EndsAs mode told c q old new outcome.Memory = (new ≡ old) ⊎ ((tables : List Table) × (n : ℕ) × Yields mode told c q tables × (new ≡ appended old (take n (yield_text tables))))
+EndsAs mode told c q old new outcome.Usage = ⊥
+EndsAs mode told c q old new outcome.NotBuilt = ⊥
+EndsAs mode told c q old new (outcome.Syntax place deep) = ⊥
 
 -- the words are a command, whose script is this query
 pub record Asks (told : Told) (words : List (List ℕ)) (c : Command) (q : Query) : Type 0 where
@@ -60,19 +74,16 @@ pub record Asks (told : Told) (words : List (List ℕ)) (c : Command) (q : Query
   pub script_file : IsTold told c.script MOST_SCRIPT_BYTES script
   pub query : IsScript script q
 
--- a run over the bytes of the command's file
+-- a run over the command's files
 pub record Runs (mode : LineMode) (told : Told) (words : List (List ℕ)) (old new : Option (List ℕ)) (o : Outcome) : Type 0 where
   pub command : Command
   pub query : Query
-  pub file : List ℕ
   pub asks : Asks told words command query
-  pub data_file : IsTold told command.file MOST_FILE_BYTES file
-  pub ends : EndsAs mode command query file old new o
+  pub ends : EndsAs mode told command query old new o
 
--- the load of a file is reached, by its name and its limit: that of the script, or past a good script that of the data
-abbrev pub Reaches : Told → List (List ℕ) → List ℕ → ℕ → Type 0
-Reaches told words name limit =
-    ((c : Command) × (IsCommand words c × (name ≡ c.script) × (limit ≡ MOST_SCRIPT_BYTES))) ⊎ ((c : Command) × (q : Query) × (Asks told words c q × (name ≡ c.file) × (limit ≡ MOST_FILE_BYTES)))
+-- the words are a command, and its script has this name
+abbrev pub NamesScript : List (List ℕ) → List ℕ → Type 0
+NamesScript words name = (c : Command) × IsCommand words c × (name ≡ c.script)
 
 -- the words are a command, whose script has the property
 pub record HasScript (P : List ℕ → Type 0) (told : Told) (words : List (List ℕ)) : Type 0 where
@@ -85,8 +96,8 @@ pub record HasScript (P : List ℕ → Type 0) (told : Told) (words : List (List
 -- the answers over files that tell their content, in the order of the refusals
 abbrev pub Answers : LineMode → Told → List (List ℕ) → Option (List ℕ) → Option (List ℕ) → Outcome → Type 0
 Answers mode told words old new outcome.Usage = ((c : Command) → IsCommand words c → ⊥) × (new ≡ old)
-Answers mode told words old new (outcome.FileFault name) = (limit : ℕ) × Reaches told words name limit × (new ≡ old)
-Answers mode told words old new (outcome.TooLong name taken) = (limit : ℕ) × Reaches told words name limit × IsLong told name limit × (taken ≡ limit + 1) × (new ≡ old)
+Answers mode told words old new (outcome.FileFault name) = (NamesScript words name × (new ≡ old)) ⊎ Runs mode told words old new (outcome.FileFault name)
+Answers mode told words old new (outcome.TooLong name taken) = (NamesScript words name × IsLong told name MOST_SCRIPT_BYTES × (taken ≡ MOST_SCRIPT_BYTES + 1) × (new ≡ old)) ⊎ Runs mode told words old new (outcome.TooLong name taken)
 Answers mode told words old new (outcome.Syntax place deep) = HasScript (λ script. IsSyntax script place.at deep) told words × (new ≡ old)
 Answers mode told words old new outcome.NotBuilt = HasScript IsNotBuilt told words × (new ≡ old)
 Answers mode told words old new outcome.Memory = (new ≡ old) ⊎ Runs mode told words old new outcome.Memory
@@ -108,12 +119,12 @@ Causes files files' out out' outcome.SinkFault = (files' ≡ files) × Rose out 
 Causes files files' out out' outcome.Memory = Unit {0}
 Causes files files' out out' o = (files' ≡ files) × (out' ≡ out)
 
--- a file that the words name, and one that they name as data
-abbrev pub IsFile : List (List ℕ) → List ℕ → Type 0
-IsFile words name = (c : Command) × IsCommand words c × ((name ≡ c.script) ⊎ (name ≡ c.file))
-
+-- a file that the words name as data, and one that they name
 abbrev pub IsDataFile : List (List ℕ) → List ℕ → Type 0
-IsDataFile words name = (c : Command) × IsCommand words c × (name ≡ c.file)
+IsDataFile words name = (c : Command) × IsCommand words c × ((place : ℕ) × NamesAt c.loads place name)
+
+abbrev pub IsFile : List (List ℕ) → List ℕ → Type 0
+IsFile words name = NamesScript words name ⊎ IsDataFile words name
 
 -- the file that an answer shows is one that the words name, whatever the files tell
 abbrev pub NamesFile : List (List ℕ) → Outcome → Type 0

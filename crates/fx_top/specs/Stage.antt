@@ -9,9 +9,11 @@ use Rattle.fx_top.specs.declared.query.Query.{Query}
 use Rattle.fx_top.specs.declared.outcome.Outcome.{Outcome}
 use Rattle.fx_top.specs.declared.outcome.Outcome.TheVariants as outcome
 use Rattle.fx_series.specs.Store.{Kept, StandsFor}
-use Rattle.fx_load.specs.declared.load.LoadStop.{LoadStop}
-use Rattle.fx_load.specs.declared.load.LoadStop.TheVariants as load_stop
-use Rattle.fx_top.specs.Answer.{IsTold, IsLong, yield_text}
+use Rattle.fx_load.specs.declared.loads.Load.{Load}
+use Rattle.fx_load.specs.declared.loads.LoadsStop.{LoadsStop}
+use Rattle.fx_load.specs.declared.loads.FileStop.TheVariants as file_stop
+use Rattle.fx_load.specs.Loads.{IsTold, IsLong}
+use Rattle.fx_top.specs.Answer.{NamesAt, yield_text}
 use Rattle.fx_top.specs.Run.{run_of}
 
 -- a load over files that tell their content
@@ -44,12 +46,14 @@ DataAnswers q buckets stored old new outcome.SinkFault = (tables : List Table) �
 DataAnswers q buckets stored old new outcome.Memory = (new ≡ old) ⊎ ((tables : List Table) × (n : ℕ) × (run_of q buckets stored ≡ Ok tables) × (new ≡ appended old (take n (yield_text tables))))
 DataAnswers q buckets stored old new o = ⊥
 
--- the answer that a load of a file stopped
-abbrev pub StopAnswers : LoadStop → List ℕ → Outcome → Type 0
-StopAnswers stop file outcome.Memory = Unit {0}
-StopAnswers (load_stop.Line number cause) file (outcome.Line f n c) = (f ≡ file) × (n ≡ number) × (c ≡ cause)
-StopAnswers (load_stop.TooMany number) file (outcome.TooMany f n) = (f ≡ file) × (n ≡ number)
-StopAnswers stop file o = ⊥
+-- the answer that a load of files stopped
+abbrev pub StopAnswers : LoadsStop → List Load → Outcome → Type 0
+StopAnswers stop loads outcome.Memory = Unit {0}
+StopAnswers stop loads (outcome.FileFault name) = (stop.stop ≡ file_stop.Failed) × NamesAt loads stop.place name
+StopAnswers stop loads (outcome.TooLong name taken) = (stop.stop ≡ file_stop.TooLong taken) × NamesAt loads stop.place name
+StopAnswers stop loads (outcome.Line name number cause) = (stop.stop ≡ file_stop.Line number cause) × NamesAt loads stop.place name
+StopAnswers stop loads (outcome.TooMany name number) = (stop.stop ≡ file_stop.TooMany number) × NamesAt loads stop.place name
+StopAnswers stop loads o = ⊥
 
 -- a store that stands for stored points
 pub record IsKept (kept : Kept) : Type 0 where

@@ -1,17 +1,21 @@
 ghost use Rattle.std.specs.Prelude.{◌≡◌, ℕ, List, ◌∷◌, ◌++◌, IfNone, IfSome, IfOk, MatchOption};
 ghost use Rattle.fx_load.specs.Bytes.{IsFreeOf};
-ghost use Rattle.fx_top.specs.Command.{IsCommand, IsLoad, IsRun, is_option};
+ghost use Rattle.fx_load.specs.declared.loads.Load.{Load};
+ghost use Rattle.fx_top.specs.Command.{AreLoads, IsCommand, IsLoad, IsLoadWord, IsRun, is_option};
 ghost use Rattle.fx_top.specs.declared.command.Command.{Command};
 
-use fx_base::{Memory, Text};
+use fx_base::{List, Memory, Text};
+use fx_load::Load;
 use std::alloc::Global;
 
-/// What a command line asks for: to run a script over one bucket, which one file fills.
+/// How many files a run may load.
+pub const MOST_LOADS: usize = 16;
+
+/// What a command line asks for: to run a script over the buckets that files fill, in their order.
 #[derive(Debug, Drop)]
 pub struct Command {
     pub script: Text,
-    pub bucket: Text,
-    pub file: Text,
+    pub loads: List<Load>,
 }
 
 /// Reads the words of a command line. None says that they have no form of a command.
@@ -19,22 +23,52 @@ pub fn read_words(alloc: Global, words: &[Text]) -> Result<Option<Command>, Memo
     ensures { IfOk result (λ c. MatchOption c ((c : Command) → IsCommand words.now c → ⊥) (λ c. IsCommand words.now c)) }
 {
     match words {
-        [command, script, load] if command.as_str() == "run" => read_run(alloc, script, load),
+        [command, script, loads @ ..] if command.as_str() == "run" => {
+            read_run(alloc, script, loads)
+        }
         _ => Ok(None),
     }
 }
 
 /// Reads the words behind `run`.
-fn read_run(alloc: Global, script: &Text, load: &Text) -> Result<Option<Command>, Memory>
-    ensures { IfOk result (λ c. MatchOption c ((c : Command) → IsRun script.now load.now c → ⊥) (λ c. IsRun script.now load.now c)) }
+fn read_run(alloc: Global, script: &Text, words: &[Text]) -> Result<Option<Command>, Memory>
+    ensures { IfOk result (λ c. MatchOption c ((c : Command) → IsRun script.now words.now c → ⊥) (λ c. IsRun script.now words.now c)) }
 {
-    if is_option_word(script) || is_option_word(load) {
+    if is_option_word(script) || words.len() > MOST_LOADS {
         return Ok(None);
     }
-    match read_load(load.as_str()) {
+    match read_loads(alloc, words)? {
         None => Ok(None),
-        Some((bucket, file)) => Ok(Some(Command {
+        Some(loads) => Ok(Some(Command {
             script: script.copy()?,
+            loads,
+        })),
+    }
+}
+
+/// Reads words of the form BUCKET=FILE.
+fn read_loads(alloc: Global, words: &[Text]) -> Result<Option<List<Load>>, Memory>
+    ensures { IfOk result (λ o. MatchOption o ((loads : List Load) → AreLoads words.now loads → ⊥) (λ loads. AreLoads words.now loads)) }
+{
+    let mut loads = List::empty(alloc);
+    for word in words {
+        match read_load_word(alloc, word)? {
+            None => return Ok(None),
+            Some(load) => loads.push(load)?,
+        }
+    }
+    Ok(Some(loads))
+}
+
+fn read_load_word(alloc: Global, word: &Text) -> Result<Option<Load>, Memory>
+    ensures { IfOk result (λ o. MatchOption o ((l : Load) → IsLoadWord word.now l → ⊥) (λ l. IsLoadWord word.now l)) }
+{
+    if is_option_word(word) {
+        return Ok(None);
+    }
+    match read_load(word.as_str()) {
+        None => Ok(None),
+        Some((bucket, file)) => Ok(Some(Load {
             bucket: Text::of(alloc, bucket)?,
             file: Text::of(alloc, file)?,
         })),

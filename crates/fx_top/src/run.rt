@@ -1,11 +1,11 @@
-ghost use Rattle.std.specs.Prelude.{◌≡◌, ℕ, ◌≤◌, ◌<◌, ◌^◌, ◌-◌, List, [], ◌∷◌, length, Some, IfOk, IsTrue};
+ghost use Rattle.std.specs.Prelude.{◌≡◌, ℕ, ◌≤◌, ◌<◌, ◌^◌, ◌-◌, List, [], length, Some, IfOk, IsTrue};
 ghost use Rattle.fx_base.specs.Outside.{Told};
 ghost use Rattle.fx_line.specs.Line.{is_factor};
 ghost use Rattle.fx_line.specs.Stored.{StoredPoint};
+ghost use Rattle.fx_load.specs.Loads.{IsTold};
 ghost use Rattle.fx_series.specs.Store.{StandsFor};
-ghost use Rattle.fx_load.specs.Load.{IsReady, FileLoads};
 ghost use Rattle.fx_top.specs.Command.{IsCommand};
-ghost use Rattle.fx_top.specs.Answer.{Answers, Asks, Causes, EndsAs, IsTold, Writes, NamesFile, Shows};
+ghost use Rattle.fx_top.specs.Answer.{Answers, Asks, Causes, Writes, NamesFile, Shows, buckets_of};
 ghost use Rattle.fx_top.specs.Stage.{FileAnswers, FileCauses, RunCauses, DataAnswers, StopAnswers, IsKept};
 
 use crate::command::{Command, read_words};
@@ -16,16 +16,13 @@ use crate::source::query_tables;
 use fx_base::{Fault, FaultKind, FileFault, Files, Memory, Sink, SinkFault, Steps, Text};
 use fx_csv::write_yield;
 use fx_line::LineMode;
-use fx_load::{LoadStop, load_file};
+use fx_load::{FileStop, Load, LoadsStop, load_files};
 use fx_series::Store;
 use std::alloc::Global;
 use std::sync::ledger::Ledger;
 
 /// How many bytes a script may have.
 pub const MOST_SCRIPT_BYTES: u64 = 65_536;
-
-/// How many bytes a data file may have.
-pub const MOST_FILE_BYTES: u64 = 67_108_864;
 
 /// How a run ended, and the script whose places the line of its outcome shows.
 #[derive(Drop)]
@@ -117,7 +114,7 @@ fn run_script<F: Files, O: Sink, L: Ledger>(
     }
 }
 
-/// Loads the data and runs a query over them.
+/// Loads the data files and runs a query over them.
 fn run_query<F: Files, O: Sink, L: Ledger>(
     alloc: Global,
     command: &Command,
@@ -133,13 +130,17 @@ fn run_query<F: Files, O: Sink, L: Ledger>(
     ensures writes { Writes (O.written out.old) (O.written out.new) result }
     ensures names { (words : List (List ℕ)) → IsCommand words command.now → NamesFile words result }
 {
-    match load(alloc, &command.file, MOST_FILE_BYTES, files) {
-        Ok(file) => run_over(alloc, command, mode, query, file, out, steps),
-        Err(refusal) => refusal,
+    let loads = command.loads.as_slice();
+    let Ok(mut store) = store_of(alloc, loads) else {
+        return Outcome::Memory;
+    };
+    match load_files(alloc, loads, mode, files, &mut store) {
+        Ok(()) => yield_query(alloc, query, &store, out, steps),
+        Err(stop) => stop_outcome(stop, loads),
     }
 }
 
-/// The bytes of a file, or the answer that it can't be had.
+/// The bytes of a script, or the answer that they can't be had.
 fn load<F: Files>(alloc: Global, name: &Text, limit: u64, files: &mut F) -> Result<Vec<u8>, Outcome>
     requires limit { limit < 2 ^ 64 - 1 }
     ensures same { F.content files.new ≡ F.content files.old }
@@ -160,66 +161,35 @@ fn load<F: Files>(alloc: Global, name: &Text, limit: u64, files: &mut F) -> Resu
     }
 }
 
-/// Stores the points of a file's lines in a bucket, and lets the file's bytes go.
-fn load_lines(
-    alloc: Global,
-    file: Vec<u8>,
-    mode: LineMode,
-    bucket: &Text,
-    store: &mut Store,
-) -> Result<(), LoadStop>
-    requires bytes { length file.items ≤ MOST_FILE_BYTES }
-    requires factor { IsTrue (is_factor mode.factor) }
-    requires ready { IsReady store.old bucket.now }
-    ensures { (buckets : List (List ℕ)) (stored : List StoredPoint) → StandsFor store.old buckets stored → FileLoads mode buckets bucket.now file.items stored store.new result }
-{
-    load_file(alloc, file.as_slice(), mode, bucket, store)
-}
-
-/// Runs a query over the lines of a file.
-fn run_over<O: Sink, L: Ledger>(
-    alloc: Global,
-    command: &Command,
-    mode: LineMode,
-    query: &Query,
-    file: Vec<u8>,
-    out: &mut O,
-    steps: &mut Steps<L>,
-) -> Outcome
-    requires bytes { length file.items ≤ MOST_FILE_BYTES }
-    requires factor { IsTrue (is_factor mode.factor) }
-    ensures ends { EndsAs mode command.now query.now file.items (O.written out.old) (O.written out.new) result }
-    ensures causes { RunCauses (O.faults out.old) (O.faults out.new) result }
-{
-    let Ok(mut store) = store_of(alloc, &command.bucket) else {
-        return Outcome::Memory;
-    };
-    match load_lines(alloc, file, mode, &command.bucket, &mut store) {
-        Ok(()) => yield_query(alloc, query, &store, out, steps),
-        Err(stop) => stop_outcome(stop, &command.file),
-    }
-}
-
-/// A store with one bucket and no points.
-fn store_of(alloc: Global, bucket: &Text) -> Result<Store, Memory>
-    ensures { IfOk result (λ store. StandsFor store (bucket.now ∷ []) []) }
+/// A store with the buckets that loads fill and no points.
+fn store_of(alloc: Global, loads: &[Load]) -> Result<Store, Memory>
+    ensures { IfOk result (λ store. StandsFor store (buckets_of loads.now) []) }
 {
     let mut store = Store::empty(alloc)?;
-    store.add_bucket(bucket)?;
+    for load in loads {
+        store.add_bucket(&load.bucket)?;
+    }
     Ok(store)
 }
 
-/// The answer that a load of a file stopped.
-fn stop_outcome(stop: LoadStop, file: &Text) -> Outcome
-    ensures { StopAnswers stop file.now result }
+/// The answer that a load of files stopped.
+fn stop_outcome(stop: LoadsStop, loads: &[Load]) -> Outcome
+    requires within { stop.place < length loads.now }
+    ensures { StopAnswers stop loads.now result }
 {
-    let Ok(file) = file.copy() else {
+    let Ok(name) = loads[stop.place].file.copy() else {
         return Outcome::Memory;
     };
-    match stop {
-        LoadStop::Line { line, cause } => Outcome::Line { file, line, cause },
-        LoadStop::TooMany { line } => Outcome::TooMany { file, line },
-        LoadStop::Memory => Outcome::Memory,
+    match stop.stop {
+        FileStop::Failed => Outcome::FileFault { name },
+        FileStop::TooLong { taken } => Outcome::TooLong { name, taken },
+        FileStop::Line { line, cause } => Outcome::Line {
+            file: name,
+            line,
+            cause,
+        },
+        FileStop::TooMany { line } => Outcome::TooMany { file: name, line },
+        FileStop::Memory => Outcome::Memory,
     }
 }
 

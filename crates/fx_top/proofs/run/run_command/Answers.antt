@@ -1,6 +1,7 @@
-use Rattle.std.proofs.Common.{refl, sym, ◌∙◌, subst, inl}
+use Rattle.std.proofs.Common.{sym, ◌∙◌, subst}
+use Rattle.fx_load.specs.Loads.{IsTold}
 use Rattle.fx_top.specs.declared.run.TheConstants.{MOST_SCRIPT_BYTES}
-use Rattle.fx_top.specs.Answer.{Answers, IsTold, Writes}
+use Rattle.fx_top.specs.Answer.{Answers, Writes}
 use Rattle.fx_top.proofs.AnswerLemmas.{file_answers, file_writes}
 use Rattle.fx_top.proofs.run.run_command.Goals as goal
 
@@ -12,8 +13,7 @@ returns-in-Ok-clause-answers g c = λ told words tells is.
 pub returns-in-Err-clause-answers : goal.returns-in-Err-clause-answers
 returns-in-Err-clause-answers g c = λ told words tells is.
     subst (Answers c.args.mode told words (g.O.Sink.written c.args.out.now) (g.O.Sink.written c.args.out.now)) (sym c.without_script.ensures)
-    (file_answers c.args.mode told words c.args.command.now.script MOST_SCRIPT_BYTES (g.O.Sink.written c.args.out.now) c.in-Err.refusal
-    (inl (c.args.command.now, (is, refl, refl))) (c.in-Err.ensures.told told tells))
+    (file_answers c.args.mode told words c.args.command.now (g.O.Sink.written c.args.out.now) c.in-Err.refusal is (c.in-Err.ensures.told told tells))
 
 pub returns-in-Err-clause-writes : goal.returns-in-Err-clause-writes
 returns-in-Err-clause-writes g c =
