@@ -1,5 +1,5 @@
 -- How the answers of the stages make those of the whole.
-use Rattle.std.proofs.Common.{◌≡◌, ℕ, List, [], length, take, Option, None, Some, Ok, Err, refl, sym, ◌∙◌, ap, subst, append-nil, inl, inr}
+use Rattle.std.proofs.Common.{◌≡◌, ℕ, ℤ, List, [], length, take, Option, None, Some, Ok, Err, refl, sym, ◌∙◌, ap, subst, append-nil, inl, inr}
 use Rattle.std.proofs.Math.Seq.{take-length}
 use Rattle.std.specs.Prelude.{◌⊎◌}
 use Rattle.fx_base.specs.Outside.{Told, appended}
@@ -16,7 +16,7 @@ use Rattle.fx_top.specs.declared.query.Query.{Query}
 use Rattle.fx_top.specs.declared.outcome.Outcome.{Outcome}
 use Rattle.fx_top.specs.declared.outcome.Outcome.TheVariants as outcome
 use Rattle.fx_top.specs.declared.run.TheConstants.{MOST_SCRIPT_BYTES}
-use Rattle.fx_top.specs.Command.{IsCommand}
+use Rattle.fx_top.specs.Command.{IsCommand, mode_of}
 use Rattle.fx_top.specs.Answer.{Answers, Asks, Causes, EndsAs, NamesAt, NamesFile, Runs, Stops, Writes, buckets_of, yield_text}
 use Rattle.fx_top.specs.Stage.{DataAnswers, FileAnswers, FileCauses, RunCauses, StopAnswers}
 
@@ -143,50 +143,50 @@ stop_names stop words c outcome.NotBuilt is h = absurd h
 stop_names stop words c (outcome.Syntax place deep) is h = absurd h
 
 -- the run over the files is what the whole answers
-run_is : (mode : LineMode) (told : Told) (words : List (List ℕ)) (c : Command) (q : Query) (old new : Option (List ℕ)) (o : Outcome) → Asks told words c q → EndsAs mode told c q old new o → Runs mode told words old new o
-run_is mode told words c q old new o asks h = record { command = c; query = q; asks = asks; ends = h }
+run_is : (moment : ℤ) (told : Told) (words : List (List ℕ)) (c : Command) (q : Query) (old new : Option (List ℕ)) (o : Outcome) → Asks told words c q → EndsAs (mode_of moment c) told c q old new o → Runs moment told words old new o
+run_is moment told words c q old new o asks h = record { command = c; query = q; asks = asks; ends = h }
 
-pub ends_answers : (mode : LineMode) (told : Told) (words : List (List ℕ)) (c : Command) (q : Query) (old new : Option (List ℕ)) (o : Outcome) → Asks told words c q → EndsAs mode told c q old new o → Answers mode told words old new o
-ends_answers mode told words c q old new outcome.Done asks h = run_is mode told words c q old new outcome.Done asks h
-ends_answers mode told words c q old new (outcome.FileFault name) asks h = inr (run_is mode told words c q old new (outcome.FileFault name) asks h)
-ends_answers mode told words c q old new (outcome.TooLong name taken) asks h = inr (run_is mode told words c q old new (outcome.TooLong name taken) asks h)
-ends_answers mode told words c q old new (outcome.Line name number cause) asks h = run_is mode told words c q old new (outcome.Line name number cause) asks h
-ends_answers mode told words c q old new (outcome.TooMany name number) asks h = run_is mode told words c q old new (outcome.TooMany name number) asks h
-ends_answers mode told words c q old new (outcome.Fault fault) asks h = run_is mode told words c q old new (outcome.Fault fault) asks h
-ends_answers mode told words c q old new outcome.SinkFault asks h = run_is mode told words c q old new outcome.SinkFault asks h
-ends_answers mode told words c q old new outcome.Memory asks h = inr (run_is mode told words c q old new outcome.Memory asks h)
-ends_answers mode told words c q old new outcome.Usage asks h = absurd h
-ends_answers mode told words c q old new outcome.NotBuilt asks h = absurd h
-ends_answers mode told words c q old new (outcome.Syntax place deep) asks h = absurd h
+pub ends_answers : (moment : ℤ) (told : Told) (words : List (List ℕ)) (c : Command) (q : Query) (old new : Option (List ℕ)) (o : Outcome) → Asks told words c q → EndsAs (mode_of moment c) told c q old new o → Answers moment told words old new o
+ends_answers moment told words c q old new outcome.Done asks h = run_is moment told words c q old new outcome.Done asks h
+ends_answers moment told words c q old new (outcome.FileFault name) asks h = inr (run_is moment told words c q old new (outcome.FileFault name) asks h)
+ends_answers moment told words c q old new (outcome.TooLong name taken) asks h = inr (run_is moment told words c q old new (outcome.TooLong name taken) asks h)
+ends_answers moment told words c q old new (outcome.Line name number cause) asks h = run_is moment told words c q old new (outcome.Line name number cause) asks h
+ends_answers moment told words c q old new (outcome.TooMany name number) asks h = run_is moment told words c q old new (outcome.TooMany name number) asks h
+ends_answers moment told words c q old new (outcome.Fault fault) asks h = run_is moment told words c q old new (outcome.Fault fault) asks h
+ends_answers moment told words c q old new outcome.SinkFault asks h = run_is moment told words c q old new outcome.SinkFault asks h
+ends_answers moment told words c q old new outcome.Memory asks h = inr (run_is moment told words c q old new outcome.Memory asks h)
+ends_answers moment told words c q old new outcome.Usage asks h = absurd h
+ends_answers moment told words c q old new outcome.NotBuilt asks h = absurd h
+ends_answers moment told words c q old new (outcome.Syntax place deep) asks h = absurd h
 
 -- files that were read, and a query over them
-pub loaded_answers : (mode : LineMode) (told : Told) (words : List (List ℕ)) (c : Command) (q : Query) (loads : List Load) (kept : Kept) (old new : Option (List ℕ)) (o : Outcome) → loads ≡ c.loads → Asks told words c q
-    → FilesLoad mode told (buckets_of loads) loads [] kept (Ok tt) → ((buckets : List (List ℕ)) (stored : List StoredPoint) → StandsFor kept buckets stored → DataAnswers q buckets stored old new o) → Answers mode told words old new o
-loaded_answers mode told words c q loads kept old new o e asks h ends =
-    let loaded = subst (λ ls. FilesLoad mode told (buckets_of ls) ls [] kept (Ok tt)) e h in
-    ends_answers mode told words c q old new o asks (data_ends mode told c q loaded.0 old new o loaded.1 (ends (buckets_of c.loads) loaded.0 loaded.2))
+pub loaded_answers : (moment : ℤ) (mode : LineMode) (told : Told) (words : List (List ℕ)) (c : Command) (q : Query) (loads : List Load) (kept : Kept) (old new : Option (List ℕ)) (o : Outcome) → loads ≡ c.loads → mode ≡ mode_of moment c → Asks told words c q
+    → FilesLoad mode told (buckets_of loads) loads [] kept (Ok tt) → ((buckets : List (List ℕ)) (stored : List StoredPoint) → StandsFor kept buckets stored → DataAnswers q buckets stored old new o) → Answers moment told words old new o
+loaded_answers moment mode told words c q loads kept old new o e at asks h ends =
+    let loaded = subst (λ m. FilesLoad m told (buckets_of c.loads) c.loads [] kept (Ok tt)) at (subst (λ ls. FilesLoad mode told (buckets_of ls) ls [] kept (Ok tt)) e h) in
+    ends_answers moment told words c q old new o asks (data_ends (mode_of moment c) told c q loaded.0 old new o loaded.1 (ends (buckets_of c.loads) loaded.0 loaded.2))
 
 -- files of which one stops the load
-pub stopped_answers : (mode : LineMode) (told : Told) (words : List (List ℕ)) (c : Command) (q : Query) (loads : List Load) (stop : LoadsStop) (old : Option (List ℕ)) (o : Outcome) → loads ≡ c.loads → Asks told words c q
-    → StopsFiles mode told loads [] stop.place stop.stop → StopAnswers stop loads o → Answers mode told words old old o
-stopped_answers mode told words c q loads stop old o e asks at h =
-    ends_answers mode told words c q old old o asks
-    (stop_ends mode told c q stop old o (subst (λ ls. StopsFiles mode told ls [] stop.place stop.stop) e at) (subst (λ ls. StopAnswers stop ls o) e h))
+pub stopped_answers : (moment : ℤ) (mode : LineMode) (told : Told) (words : List (List ℕ)) (c : Command) (q : Query) (loads : List Load) (stop : LoadsStop) (old : Option (List ℕ)) (o : Outcome) → loads ≡ c.loads → mode ≡ mode_of moment c → Asks told words c q
+    → StopsFiles mode told loads [] stop.place stop.stop → StopAnswers stop loads o → Answers moment told words old old o
+stopped_answers moment mode told words c q loads stop old o e m asks at h =
+    ends_answers moment told words c q old old o asks
+    (stop_ends (mode_of moment c) told c q stop old o (subst (λ x. StopsFiles x told c.loads [] stop.place stop.stop) m (subst (λ ls. StopsFiles mode told ls [] stop.place stop.stop) e at)) (subst (λ ls. StopAnswers stop ls o) e h))
 
 -- ---- a script that is refused as an answer of the whole
 
-pub file_answers : (mode : LineMode) (told : Told) (words : List (List ℕ)) (c : Command) (old : Option (List ℕ)) (o : Outcome) → IsCommand words c → FileAnswers told c.script MOST_SCRIPT_BYTES (Err o) → Answers mode told words old old o
-file_answers mode told words c old outcome.Done is h = absurd h
-file_answers mode told words c old (outcome.FileFault name) is h = inl ((c, is, h), refl)
-file_answers mode told words c old (outcome.TooLong name taken) is h = inl ((c, is, h.1), subst (λ n. IsLong told n MOST_SCRIPT_BYTES) (sym h.1) h.0, h.2, refl)
-file_answers mode told words c old (outcome.Line name number cause) is h = absurd h
-file_answers mode told words c old (outcome.TooMany name number) is h = absurd h
-file_answers mode told words c old (outcome.Fault fault) is h = absurd h
-file_answers mode told words c old outcome.SinkFault is h = absurd h
-file_answers mode told words c old outcome.Memory is h = inl refl
-file_answers mode told words c old outcome.Usage is h = absurd h
-file_answers mode told words c old outcome.NotBuilt is h = absurd h
-file_answers mode told words c old (outcome.Syntax place deep) is h = absurd h
+pub file_answers : (moment : ℤ) (told : Told) (words : List (List ℕ)) (c : Command) (old : Option (List ℕ)) (o : Outcome) → IsCommand words c → FileAnswers told c.script MOST_SCRIPT_BYTES (Err o) → Answers moment told words old old o
+file_answers moment told words c old outcome.Done is h = absurd h
+file_answers moment told words c old (outcome.FileFault name) is h = inl ((c, is, h), refl)
+file_answers moment told words c old (outcome.TooLong name taken) is h = inl ((c, is, h.1), subst (λ n. IsLong told n MOST_SCRIPT_BYTES) (sym h.1) h.0, h.2, refl)
+file_answers moment told words c old (outcome.Line name number cause) is h = absurd h
+file_answers moment told words c old (outcome.TooMany name number) is h = absurd h
+file_answers moment told words c old (outcome.Fault fault) is h = absurd h
+file_answers moment told words c old outcome.SinkFault is h = absurd h
+file_answers moment told words c old outcome.Memory is h = inl refl
+file_answers moment told words c old outcome.Usage is h = absurd h
+file_answers moment told words c old outcome.NotBuilt is h = absurd h
+file_answers moment told words c old (outcome.Syntax place deep) is h = absurd h
 
 pub file_causes : (name : List ℕ) (limit files files' out : ℕ) (o : Outcome) → FileCauses name limit files files' (Err o) → Causes files files' out out o
 file_causes name limit files files' out outcome.Done h = absurd h
@@ -233,20 +233,20 @@ memory_writes old = ([], 0, no_text old old refl)
 
 -- ---- want of memory in place of another answer, when its line was to be told
 
-pub forget_answers : (mode : LineMode) (told : Told) (words : List (List ℕ)) (old new : Option (List ℕ)) (o : Outcome) → Answers mode told words old new o → Answers mode told words old new outcome.Memory
-forget_answers mode told words old new outcome.Usage h = inl h.1
-forget_answers mode told words old new (outcome.FileFault name) (inl h) = inl h.1
-forget_answers mode told words old new (outcome.FileFault name) (inr h) = inl h.ends.1
-forget_answers mode told words old new (outcome.TooLong name taken) (inl h) = inl h.3
-forget_answers mode told words old new (outcome.TooLong name taken) (inr h) = inl h.ends.1
-forget_answers mode told words old new outcome.NotBuilt h = inl h.1
-forget_answers mode told words old new (outcome.Syntax place deep) h = inl h.1
-forget_answers mode told words old new outcome.Memory h = h
-forget_answers mode told words old new (outcome.Line name number cause) h = inl h.ends.1
-forget_answers mode told words old new (outcome.TooMany name number) h = inl h.ends.1
-forget_answers mode told words old new (outcome.Fault fault) h = inl h.ends.1
-forget_answers mode told words old new outcome.SinkFault h = inr (run_is mode told words h.command h.query old new outcome.Memory h.asks (inr h.ends))
-forget_answers mode told words old new outcome.Done h = inr (run_is mode told words h.command h.query old new outcome.Memory h.asks
+pub forget_answers : (moment : ℤ) (told : Told) (words : List (List ℕ)) (old new : Option (List ℕ)) (o : Outcome) → Answers moment told words old new o → Answers moment told words old new outcome.Memory
+forget_answers moment told words old new outcome.Usage h = inl h.1
+forget_answers moment told words old new (outcome.FileFault name) (inl h) = inl h.1
+forget_answers moment told words old new (outcome.FileFault name) (inr h) = inl h.ends.1
+forget_answers moment told words old new (outcome.TooLong name taken) (inl h) = inl h.3
+forget_answers moment told words old new (outcome.TooLong name taken) (inr h) = inl h.ends.1
+forget_answers moment told words old new outcome.NotBuilt h = inl h.1
+forget_answers moment told words old new (outcome.Syntax place deep) h = inl h.1
+forget_answers moment told words old new outcome.Memory h = h
+forget_answers moment told words old new (outcome.Line name number cause) h = inl h.ends.1
+forget_answers moment told words old new (outcome.TooMany name number) h = inl h.ends.1
+forget_answers moment told words old new (outcome.Fault fault) h = inl h.ends.1
+forget_answers moment told words old new outcome.SinkFault h = inr (run_is moment told words h.command h.query old new outcome.Memory h.asks (inr h.ends))
+forget_answers moment told words old new outcome.Done h = inr (run_is moment told words h.command h.query old new outcome.Memory h.asks
     (inr (h.ends.0, length (yield_text h.ends.0), h.ends.1, h.ends.2 ∙ ap (appended old) (sym (take-length (yield_text h.ends.0))))))
 
 pub forget_writes : (old new : Option (List ℕ)) (o : Outcome) → Writes old new o → Writes old new outcome.Memory
@@ -264,9 +264,9 @@ forget_writes old new (outcome.Fault fault) h = ([], 0, no_text old new h)
 
 -- ---- the answer that was told
 
-pub told_answers : (mode : LineMode) (told : Told) (words : List (List ℕ)) (old new : Option (List ℕ)) (o r : Outcome) → ((r ≡ o) ⊎ (r ≡ outcome.Memory)) → Answers mode told words old new o → Answers mode told words old new r
-told_answers mode told words old new o r (inl e) h = subst (λ a. Answers mode told words old new a) (sym e) h
-told_answers mode told words old new o r (inr e) h = subst (λ a. Answers mode told words old new a) (sym e) (forget_answers mode told words old new o h)
+pub told_answers : (moment : ℤ) (told : Told) (words : List (List ℕ)) (old new : Option (List ℕ)) (o r : Outcome) → ((r ≡ o) ⊎ (r ≡ outcome.Memory)) → Answers moment told words old new o → Answers moment told words old new r
+told_answers moment told words old new o r (inl e) h = subst (λ a. Answers moment told words old new a) (sym e) h
+told_answers moment told words old new o r (inr e) h = subst (λ a. Answers moment told words old new a) (sym e) (forget_answers moment told words old new o h)
 
 pub told_writes : (old new : Option (List ℕ)) (o r : Outcome) → ((r ≡ o) ⊎ (r ≡ outcome.Memory)) → Writes old new o → Writes old new r
 told_writes old new o r (inl e) h = subst (λ a. Writes old new a) (sym e) h

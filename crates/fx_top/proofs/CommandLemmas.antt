@@ -9,7 +9,10 @@ use Rattle.std.proofs.lemmas.Bool.{eqb-true}
 use Rattle.fx_load.specs.Bytes.{IsFreeOf}
 use Rattle.fx_load.specs.declared.loads.Load.{Load}
 use Rattle.std.proofs.lemmas.List.{take_more}
-use Rattle.fx_top.specs.Command.{AreLoads, IsLoad, IsLoadWord, IsRun, IsCommand}
+use Rattle.fx_top.specs.Command.{AreLoads, Commands, IsLoad, IsRun, IsCommand}
+use Rattle.fx_top.specs.Words.{says}
+use Rattle.fx_top.specs.declared.words.Reading.TheVariants as reading
+use Rattle.fx_top.specs.declared.words.Said.{Said}
 use Rattle.fx_top.specs.declared.command.Command.{Command}
 use Rattle.fx_load.proofs.BytesLemmas.{first_parts, none_first, same_cut, not_cut}
 
@@ -38,47 +41,59 @@ pub uncut : (word : List ℕ) → IsFreeOf 61 word → (b f : List ℕ) → IsLo
 uncut word free b f load = not_cut 61 b f (subst (IsFreeOf 61) load.spelled free)
 
 -- the words of loads, one after another
-pub loads_push : (words : List (List ℕ)) (loads : List Load) (word : List ℕ) (l : Load) → AreLoads words loads → IsLoadWord word l → AreLoads (words ++ word ∷ []) (loads ++ l ∷ [])
+pub loads_push : (words : List (List ℕ)) (loads : List Load) (word : List ℕ) (l : Load) → AreLoads words loads → IsLoad word l.bucket l.file → AreLoads (words ++ word ∷ []) (loads ++ l ∷ [])
 loads_push [] [] word l h one = (one, tt)
 loads_push [] (k ∷ loads) word l h one = absurd h
 loads_push (w ∷ words) [] word l h one = absurd h
 loads_push (w ∷ words) (k ∷ loads) word l h one = (h.0, loads_push words loads word l h.1 one)
 
-pub loads_on : (words : List (List ℕ)) (loads new : List Load) (i : ℕ) (word : List ℕ) (l : Load) → i < length words → word ≡ get_or words i word → new ≡ loads ++ l ∷ [] → AreLoads (take i words) loads → IsLoadWord word l → AreLoads (take (i + 1) words) new
+pub loads_on : (words : List (List ℕ)) (loads new : List Load) (i : ℕ) (word : List ℕ) (l : Load) → i < length words → word ≡ get_or words i word → new ≡ loads ++ l ∷ [] → AreLoads (take i words) loads → IsLoad word l.bucket l.file → AreLoads (take (i + 1) words) new
 loads_on words loads new i word l within is e h one =
     let longer : take i words ++ word ∷ [] ≡ take (i + 1) words = ap (λ w. take i words ++ w ∷ []) is ∙ sym (take_more words i word within) in
     subst (AreLoads (take (i + 1) words)) (sym e) (subst (λ ws. AreLoads ws (loads ++ l ∷ [])) longer (loads_push (take i words) loads word l h one))
 
 -- a word that loads nothing
-pub no_loads : (words : List (List ℕ)) (i : ℕ) (word : List ℕ) → i < length words → word ≡ get_or words i word → ((l : Load) → IsLoadWord word l → ⊥) → (loads : List Load) → AreLoads words loads → ⊥
+pub no_loads : (words : List (List ℕ)) (i : ℕ) (word : List ℕ) → i < length words → word ≡ get_or words i word → ((l : Load) → IsLoad word l.bucket l.file → ⊥) → (loads : List Load) → AreLoads words loads → ⊥
 no_loads [] i word within is none loads h = omega (arith, within)
 no_loads (w ∷ words) i word within is none [] h = h
-no_loads (w ∷ words) zero word within is none (l ∷ loads) h = none l (subst (λ x. IsLoadWord x l) (sym is) h.0)
+no_loads (w ∷ words) zero word within is none (l ∷ loads) h = none l (subst (λ x. IsLoad x l.bucket l.file) (sym is) h.0)
 no_loads (w ∷ words) (suc i) word within is none (l ∷ loads) h = no_loads words i word (omega (arith, within)) is none loads h.1
 
--- the words behind the first two
-abbrev pub behind_two : List (List ℕ) → List (List ℕ)
-behind_two words = take (length words - 2) (drop 2 words)
+-- what is known of what words say is known of the words
+pub run_said : (words : List (List ℕ)) (said : Said) (r : Result (Option Command) Memory) → says reading.Open words ≡ Some said
+    → IfOk r (λ o. MatchOption o ((c : Command) → Commands said c → ⊥) (λ c. Commands said c))
+    → IfOk r (λ o. MatchOption o ((c : Command) → IsRun words c → ⊥) (λ c. IsRun words c))
+run_said words said (Err e) is h = tt
+run_said words said (Ok None) is h = λ c k.
+    let both : Some k.said ≡ Some said = sym k.says_it ∙ is in
+    let same : k.said ≡ said = cc both in
+    h c (subst (λ s. Commands s c) same k.commands)
+run_said words said (Ok (Some c)) is h = record { said = said; says_it = is; commands = h }
 
-two_less : (n : ℕ) → suc (suc n) - 2 ≡ n
-two_less n = omega arith
+-- a word that was read as a load
+pub loaded_word : (word w bucket b file f : List ℕ) → w ≡ word → b ≡ bucket → f ≡ file → IsLoad w bucket file → IsLoad word b f
+loaded_word word w bucket b file f e d g h = subst (λ x. IsLoad x b f) e (subst (λ x. IsLoad w x f) (sym d) (subst (λ x. IsLoad w bucket x) (sym g) h))
 
--- two words are read by their places, and the others stand behind them
-pub two : (words : List (List ℕ)) (command script : List ℕ) → 2 ≤ length words → command ≡ get_or words 0 command → script ≡ get_or words 1 script → words ≡ command ∷ script ∷ behind_two words
-two [] command script long e f = absurd (omega (arith, long))
-two (a ∷ []) command script long e f = absurd (omega (arith, long))
-two (a ∷ b ∷ rest) command script long e f =
-    let same : rest ≡ take (length (a ∷ b ∷ rest) - 2) rest = sym (ap (λ n. take n rest) (two_less (length rest)) ∙ take-length rest) in
-    λ i. sym e i ∷ sym f i ∷ same i
+-- the words behind the first
+abbrev pub behind_first : List (List ℕ) → List (List ℕ)
+behind_first words = take (length words - 1) (drop 1 words)
+
+one_less : (n : ℕ) → suc n - 1 ≡ n
+one_less n = omega arith
+
+pub one : (words : List (List ℕ)) (first : List ℕ) → 1 ≤ length words → first ≡ get_or words 0 first → words ≡ first ∷ behind_first words
+one [] first long e = absurd (omega (arith, long))
+one (a ∷ rest) first long e =
+    let same : rest ≡ take (length (a ∷ rest) - 1) rest = sym (ap (λ n. take n rest) (one_less (length rest)) ∙ take-length rest) in
+    λ i. sym e i ∷ same i
 
 -- what is known of the words behind `run` is known of all words
-pub lifted : (words : List (List ℕ)) (script : List ℕ) (loads : List (List ℕ)) (r : Result (Option Command) Memory) → words ≡ codes "run" ∷ script ∷ loads
-    → IfOk r (λ o. MatchOption o ((c : Command) → IsRun script loads c → ⊥) (λ c. IsRun script loads c))
+pub lifted : (words rest : List (List ℕ)) (r : Result (Option Command) Memory) → words ≡ codes "run" ∷ rest
+    → IfOk r (λ o. MatchOption o ((c : Command) → IsRun rest c → ⊥) (λ c. IsRun rest c))
     → IfOk r (λ o. MatchOption o ((c : Command) → IsCommand words c → ⊥) (λ c. IsCommand words c))
-lifted words script loads (Err e) is h = tt
-lifted words script loads (Ok None) is h = λ c k.
-    let same : codes "run" ∷ script ∷ loads ≡ codes "run" ∷ k.script ∷ k.loads = sym is ∙ k.spelled in
-    let scripts : script ≡ k.script = cc in
-    let files : loads ≡ k.loads = cc in
-    h c (rw (scripts, files) k.run)
-lifted words script loads (Ok (Some c)) is h = record { script = script; loads = loads; spelled = is; run = h }
+lifted words rest (Err e) is h = tt
+lifted words rest (Ok None) is h = λ c k.
+    let same : codes "run" ∷ rest ≡ codes "run" ∷ k.rest = sym is ∙ k.spelled in
+    let behind : rest ≡ k.rest = cc in
+    h c (rw behind k.run)
+lifted words rest (Ok (Some c)) is h = record { rest = rest; spelled = is; run = h }

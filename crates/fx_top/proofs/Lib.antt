@@ -7,3 +7,4 @@ pub mod SourceLemmas
 pub mod AnswerLemmas
 pub mod AnswerOnce
 pub mod StoreLemmas
+pub mod WordLemmas

@@ -1,5 +1,5 @@
 -- What the nodes of a tree are, where the tree without places is known.
-use Rattle.std.proofs.Common.{◌≡◌, ◌↔◌, ℕ, ℤ, List, [], ◌∷◌, length, codes, refl, sym, ◌∙◌, ap, subst, map, Option, None, Some, arith}
+use Rattle.std.proofs.Common.{◌≡◌, ◌↔◌, ℕ, ℤ, List, [], ◌∷◌, length, codes, refl, sym, ◌∙◌, ap, subst, map, Option, None, Some}
 use Rattle.std.specs.Option.{IfNone, IfSome}
 use Rattle.fx_ast.specs.declared.expr.Expr.{Expr}
 use Rattle.fx_ast.specs.declared.expr.Node.{Node}
@@ -7,7 +7,7 @@ use Rattle.fx_ast.specs.declared.expr.Node.TheVariants as node
 use Rattle.fx_ast.specs.declared.expr.Part.{Part}
 use Rattle.fx_ast.specs.declared.expr.Prop.{Prop}
 use Rattle.fx_ast.specs.Tree.{Tree, tree, Shape, name, text, call, pipe, more_trees, no_trees, piece, no_parts, Props, no_props, more_props, StatementForm, show, StatementTree, ScriptTree}
-use Rattle.fx_ast.specs.Shape.{OfPart, a_piece, a_hole, OfProp, tree_of, shape_of, part, prop, trees_of, parts_of, props_of}
+use Rattle.fx_ast.specs.Shape.{a_piece, a_hole, OfProp, tree_of, shape_of, part, prop, trees_of, parts_of, props_of}
 use Rattle.fx_ast.specs.Bare.{nowhere, bare, bare_shape, bare_trees, bare_parts, bare_props, bare_script}
 use Rattle.fx_ast.proofs.ShapeLaws.{tree_is, prop_is}
 use Rattle.fx_ast.proofs.BareLaws.{Opens, opens, bare_name, bare_text, bare_call, bare_pipe}

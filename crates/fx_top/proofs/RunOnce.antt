@@ -9,7 +9,7 @@ use Rattle.fx_line.specs.Stored.{StoredPoint}
 use Rattle.fx_load.specs.declared.loads.Load.{Load}
 use Rattle.fx_load.specs.declared.loads.FileStop.{FileStop}
 use Rattle.fx_load.specs.declared.loads.FileStop.TheVariants as file_stop
-use Rattle.fx_load.specs.Loads.{FilesRead, StopsFiles}
+use Rattle.fx_load.specs.Loads.{FilesRead}
 use Rattle.fx_load.proofs.LoadsOnce as once
 use Rattle.fx_load.proofs.LoadsOnce.{same_files, same_files_stop, stop_or_files}
 use Rattle.fx_top.specs.declared.command.Command.{Command}
@@ -17,7 +17,7 @@ use Rattle.fx_top.specs.declared.outcome.Outcome.{Outcome}
 use Rattle.fx_top.specs.declared.outcome.Outcome.TheVariants as outcome
 use Rattle.fx_top.specs.declared.query.Query.{Query}
 use Rattle.fx_top.specs.Run.{run_of}
-use Rattle.fx_top.specs.Answer.{EndsAs, Fails, IsSettled, NamesAt, Stops, Yields, buckets_of}
+use Rattle.fx_top.specs.Answer.{EndsAs, IsSettled, NamesAt, Stops, buckets_of}
 
 -- the answer of a query that was run, and that of a file that stops the load
 abbrev pub end_of : Result (List Table) Fault → Outcome

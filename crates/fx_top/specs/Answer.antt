@@ -1,6 +1,6 @@
 -- What the answers of the top call say.
 use Rattle.fx_line.specs.declared.line.LineMode.{LineMode}
-use Rattle.std.specs.Prelude.{◌≡◌, ℕ, ◌+◌, Bool, List, [], ◌∷◌, fold, take, codes, Option, Some, Ok, Err, ◌⊎◌}
+use Rattle.std.specs.Prelude.{◌≡◌, ℕ, ℤ, ◌+◌, List, [], fold, take, codes, Option, Some, Ok, Err, ◌⊎◌}
 use Rattle.std.specs.List.{slice_get}
 use Rattle.fx_base.specs.Outside.{Told, appended, Rose}
 use Rattle.fx_base.specs.declared.fault.Fault.{Fault}
@@ -17,7 +17,7 @@ use Rattle.fx_top.specs.declared.query.Query.{Query}
 use Rattle.fx_top.specs.declared.outcome.Outcome.{Outcome}
 use Rattle.fx_top.specs.declared.outcome.Outcome.TheVariants as outcome
 use Rattle.fx_top.specs.declared.run.TheConstants.{MOST_SCRIPT_BYTES}
-use Rattle.fx_top.specs.Command.{IsCommand}
+use Rattle.fx_top.specs.Command.{IsCommand, mode_of}
 use Rattle.fx_top.specs.Message.{line_of}
 use Rattle.fx_top.specs.Run.{run_of}
 use Rattle.fx_top.specs.Syntax.{IsScript, IsSyntax, IsNotBuilt}
@@ -75,11 +75,11 @@ pub record Asks (told : Told) (words : List (List ℕ)) (c : Command) (q : Query
   pub query : IsScript script q
 
 -- a run over the command's files
-pub record Runs (mode : LineMode) (told : Told) (words : List (List ℕ)) (old new : Option (List ℕ)) (o : Outcome) : Type 0 where
+pub record Runs (moment : ℤ) (told : Told) (words : List (List ℕ)) (old new : Option (List ℕ)) (o : Outcome) : Type 0 where
   pub command : Command
   pub query : Query
   pub asks : Asks told words command query
-  pub ends : EndsAs mode told command query old new o
+  pub ends : EndsAs (mode_of moment command) told command query old new o
 
 -- the words are a command, and its script has this name
 abbrev pub NamesScript : List (List ℕ) → List ℕ → Type 0
@@ -94,14 +94,14 @@ pub record HasScript (P : List ℕ → Type 0) (told : Told) (words : List (List
   pub has : P script
 
 -- the answers over files that tell their content, in the order of the refusals
-abbrev pub Answers : LineMode → Told → List (List ℕ) → Option (List ℕ) → Option (List ℕ) → Outcome → Type 0
-Answers mode told words old new outcome.Usage = ((c : Command) → IsCommand words c → ⊥) × (new ≡ old)
-Answers mode told words old new (outcome.FileFault name) = (NamesScript words name × (new ≡ old)) ⊎ Runs mode told words old new (outcome.FileFault name)
-Answers mode told words old new (outcome.TooLong name taken) = (NamesScript words name × IsLong told name MOST_SCRIPT_BYTES × (taken ≡ MOST_SCRIPT_BYTES + 1) × (new ≡ old)) ⊎ Runs mode told words old new (outcome.TooLong name taken)
-Answers mode told words old new (outcome.Syntax place deep) = HasScript (λ script. IsSyntax script place.at deep) told words × (new ≡ old)
-Answers mode told words old new outcome.NotBuilt = HasScript IsNotBuilt told words × (new ≡ old)
-Answers mode told words old new outcome.Memory = (new ≡ old) ⊎ Runs mode told words old new outcome.Memory
-Answers mode told words old new o = Runs mode told words old new o
+abbrev pub Answers : ℤ → Told → List (List ℕ) → Option (List ℕ) → Option (List ℕ) → Outcome → Type 0
+Answers moment told words old new outcome.Usage = ((c : Command) → IsCommand words c → ⊥) × (new ≡ old)
+Answers moment told words old new (outcome.FileFault name) = (NamesScript words name × (new ≡ old)) ⊎ Runs moment told words old new (outcome.FileFault name)
+Answers moment told words old new (outcome.TooLong name taken) = (NamesScript words name × IsLong told name MOST_SCRIPT_BYTES × (taken ≡ MOST_SCRIPT_BYTES + 1) × (new ≡ old)) ⊎ Runs moment told words old new (outcome.TooLong name taken)
+Answers moment told words old new (outcome.Syntax place deep) = HasScript (λ script. IsSyntax script place.at deep) told words × (new ≡ old)
+Answers moment told words old new outcome.NotBuilt = HasScript IsNotBuilt told words × (new ≡ old)
+Answers moment told words old new outcome.Memory = (new ≡ old) ⊎ Runs moment told words old new outcome.Memory
+Answers moment told words old new o = Runs moment told words old new o
 
 -- what is written whatever the files tell: the text of one whole yield, a prefix of it where the sink or the memory
 -- refused, and nothing before a refusal

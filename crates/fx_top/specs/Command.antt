@@ -1,15 +1,15 @@
 -- The form of a command line.
-use Rattle.std.specs.Prelude.{◌≡◌, ◌≢◌, ℕ, ℤ, ◌≤◌, pos, Bool, false, ◌&&◌, nat_lt, nat_eq, List, [], ◌∷◌, ◌++◌, length, codes}
-use Rattle.std.specs.List.{starts_with}
+use Rattle.std.specs.Prelude.{◌≡◌, ◌≢◌, ℕ, ℤ, ◌≤◌, Bool, true, false, List, [], ◌∷◌, ◌++◌, length, codes, Option, None, Some}
 use Rattle.fx_line.specs.declared.line.LineMode.{LineMode}
-use Rattle.fx_top.specs.declared.command.Command.{Command}
 use Rattle.fx_load.specs.Bytes.{IsFreeOf}
 use Rattle.fx_load.specs.declared.loads.Load.{Load}
+use Rattle.fx_top.specs.declared.command.Command.{Command}
 use Rattle.fx_top.specs.declared.command.TheConstants.{MOST_LOADS}
-
--- a word that begins with a hyphen and is longer than one byte; no such word exists yet
-abbrev pub is_option : List ℕ → Bool
-is_option word = starts_with nat_eq word (45 ∷ []) && nat_lt 1 (length word)
+use Rattle.fx_top.specs.declared.words.Precision.{Precision}
+use Rattle.fx_top.specs.declared.words.Precision.TheVariants as unit
+use Rattle.fx_top.specs.declared.words.Reading.TheVariants as reading
+use Rattle.fx_top.specs.declared.words.Said.{Said}
+use Rattle.fx_top.specs.Words.{factor_of, says}
 
 -- the word is BUCKET=FILE, cut at its first `=`, and neither part is empty
 pub record IsLoad (word bucket file : List ℕ) : Type 0 where
@@ -18,32 +18,53 @@ pub record IsLoad (word bucket file : List ℕ) : Type 0 where
   pub bucket_there : bucket ≢ []
   pub file_there : file ≢ []
 
--- the word loads this file into this bucket
-pub record IsLoadWord (word : List ℕ) (l : Load) : Type 0 where
-  pub plain : is_option word ≡ false
-  pub loads : IsLoad word l.bucket l.file
-
--- each word loads the file at its place
+-- each word loads the file at its place into its bucket
 abbrev pub AreLoads : List (List ℕ) → List Load → Type 0
 AreLoads [] [] = Unit {0}
 AreLoads [] (l ∷ loads) = ⊥
 AreLoads (word ∷ words) [] = ⊥
-AreLoads (word ∷ words) (l ∷ loads) = IsLoadWord word l × AreLoads words loads
+AreLoads (word ∷ words) (l ∷ loads) = IsLoad word l.bucket l.file × AreLoads words loads
 
--- a script, and files to load, no more than may be; no word is an option
-pub record IsRun (script : List ℕ) (words : List (List ℕ)) (c : Command) : Type 0 where
-  pub named : c.script ≡ script
-  pub plain : is_option script ≡ false
-  pub few : length words ≤ MOST_LOADS
-  pub loads : AreLoads words c.loads
+-- the value that stands alone, if one stands there; no answer where several do
+abbrev pub once : {A : Type 0} → List A → Option (Option A)
+once [] = Some None
+once (x ∷ []) = Some (Some x)
+once (x ∷ y ∷ more) = None
 
--- the words are `run SCRIPT`, and BUCKET=FILE for each file
-pub record IsCommand (words : List (List ℕ)) (c : Command) : Type 0 where
-  pub script : List ℕ
+abbrev pub value_or : {A : Type 0} → Option A → A → A
+value_or None a = a
+value_or (Some b) a = b
+
+abbrev pub is_there : {A : Type 0} → Option A → Bool
+is_there None = false
+is_there (Some a) = true
+
+-- the positional words are a script and the files to load, no more than may be, and no option stands twice
+pub record Commands (said : Said) (c : Command) : Type 0 where
   pub loads : List (List ℕ)
-  pub spelled : words ≡ codes "run" ∷ script ∷ loads
-  pub run : IsRun script loads c
+  pub words : said.words ≡ c.script ∷ loads
+  pub few : length loads ≤ MOST_LOADS
+  pub are_loads : AreLoads loads c.loads
+  pub moment : once said.nows ≡ Some c.moment
+  pub precision : Option Precision
+  pub one_precision : once said.precisions ≡ Some precision
+  pub precision_is : c.precision ≡ value_or precision unit.Ns
+  pub skip : Option Bool
+  pub one_skip : once said.skips ≡ Some skip
+  pub skip_is : c.skip_floats ≡ is_there skip
 
--- lines of nanoseconds, where floats are refused and a missing time is the moment
-abbrev pub plain_mode : ℤ → LineMode
-plain_mode moment = record { factor = pos 1; moment = moment; skip_floats = false }
+-- the words behind `run`
+pub record IsRun (words : List (List ℕ)) (c : Command) : Type 0 where
+  pub said : Said
+  pub says_it : says reading.Open words ≡ Some said
+  pub commands : Commands said c
+
+-- the words are `run SCRIPT`, BUCKET=FILE for each file, and options
+pub record IsCommand (words : List (List ℕ)) (c : Command) : Type 0 where
+  pub rest : List (List ℕ)
+  pub spelled : words ≡ codes "run" ∷ rest
+  pub run : IsRun rest c
+
+-- how a run reads the lines of its files: a line without a time has the moment, or the time of `--now`
+abbrev pub mode_of : ℤ → Command → LineMode
+mode_of moment c = record { factor = factor_of c.precision; moment = value_or c.moment moment; skip_floats = c.skip_floats }

@@ -6,3 +6,4 @@ pub mod Run
 pub mod Query
 pub mod Stage
 pub mod Syntax
+pub mod Words

@@ -1,5 +1,5 @@
 -- What an outcome is to a person: the exit status and the line on standard error.
-use Rattle.std.specs.Prelude.{◌≡◌, ℕ, ◌+◌, Bool, true, false, not, ◌==◌, List, [], ◌++◌, codes, count_by, decimal, take}
+use Rattle.std.specs.Prelude.{ℕ, ◌+◌, Bool, true, false, not, ◌==◌, List, [], ◌++◌, codes, count_by, decimal, take}
 use Rattle.std.specs.List.{suffix_len}
 use Rattle.fx_base.specs.declared.fault.FaultKind.{FaultKind}
 use Rattle.fx_base.specs.declared.fault.FaultKind.TheVariants as fault

@@ -1,10 +1,13 @@
-ghost use Rattle.std.specs.Prelude.{◌≡◌, ℕ, List, ◌∷◌, ◌++◌, IfNone, IfSome, IfOk, MatchOption};
+ghost use Rattle.std.specs.Prelude.{◌≡◌, ℕ, List, ◌∷◌, ◌++◌, IfNone, IfSome, IfOk, IsTrue, MatchOption};
+ghost use Rattle.fx_line.specs.Line.{is_factor};
 ghost use Rattle.fx_load.specs.Bytes.{IsFreeOf};
 ghost use Rattle.fx_load.specs.declared.loads.Load.{Load};
-ghost use Rattle.fx_top.specs.Command.{AreLoads, IsCommand, IsLoad, IsLoadWord, IsRun, is_option};
+ghost use Rattle.fx_top.specs.Command.{AreLoads, Commands, IsCommand, IsLoad, IsRun, mode_of, once};
 ghost use Rattle.fx_top.specs.declared.command.Command.{Command};
 
+use crate::words::{Precision, Said, read_said};
 use fx_base::{List, Memory, Text};
+use fx_line::LineMode;
 use fx_load::Load;
 use std::alloc::Global;
 
@@ -16,6 +19,26 @@ pub const MOST_LOADS: usize = 16;
 pub struct Command {
     pub script: Text,
     pub loads: List<Load>,
+    /// The time that stands for the moment, in nanoseconds since 1970-01-01T00:00:00Z.
+    pub moment: Option<i64>,
+    /// The unit of the files' times.
+    pub precision: Precision,
+    /// Whether fields that are floats are passed over.
+    pub skip_floats: bool,
+}
+
+impl Command {
+    /// How the lines of the files are read at a moment.
+    pub fn mode(&self, moment: i64) -> LineMode
+        ensures value { result ≡ mode_of moment self.now }
+        ensures factor { IsTrue (is_factor result.factor) }
+    {
+        LineMode {
+            factor: self.precision.factor(),
+            moment: self.moment.unwrap_or(moment),
+            skip_floats: self.skip_floats,
+        }
+    }
 }
 
 /// Reads the words of a command line. None says that they have no form of a command.
@@ -23,18 +46,38 @@ pub fn read_words(alloc: Global, words: &[Text]) -> Result<Option<Command>, Memo
     ensures { IfOk result (λ c. MatchOption c ((c : Command) → IsCommand words.now c → ⊥) (λ c. IsCommand words.now c)) }
 {
     match words {
-        [command, script, loads @ ..] if command.as_str() == "run" => {
-            read_run(alloc, script, loads)
-        }
+        [command, rest @ ..] if command.as_str() == "run" => read_run(alloc, rest),
         _ => Ok(None),
     }
 }
 
 /// Reads the words behind `run`.
-fn read_run(alloc: Global, script: &Text, words: &[Text]) -> Result<Option<Command>, Memory>
-    ensures { IfOk result (λ c. MatchOption c ((c : Command) → IsRun script.now words.now c → ⊥) (λ c. IsRun script.now words.now c)) }
+fn read_run(alloc: Global, words: &[Text]) -> Result<Option<Command>, Memory>
+    ensures { IfOk result (λ c. MatchOption c ((c : Command) → IsRun words.now c → ⊥) (λ c. IsRun words.now c)) }
 {
-    if is_option_word(script) || words.len() > MOST_LOADS {
+    match read_said(alloc, words)? {
+        None => Ok(None),
+        Some(said) => command_of(alloc, &said),
+    }
+}
+
+/// The command of what words say.
+fn command_of(alloc: Global, said: &Said) -> Result<Option<Command>, Memory>
+    ensures { IfOk result (λ c. MatchOption c ((c : Command) → Commands said.now c → ⊥) (λ c. Commands said.now c)) }
+{
+    let Some(moment) = once(said.nows.as_slice()) else {
+        return Ok(None);
+    };
+    let Some(precision) = once(said.precisions.as_slice()) else {
+        return Ok(None);
+    };
+    let Some(skip) = once(said.skips.as_slice()) else {
+        return Ok(None);
+    };
+    let [script, words @ ..] = said.words.as_slice() else {
+        return Ok(None);
+    };
+    if words.len() > MOST_LOADS {
         return Ok(None);
     }
     match read_loads(alloc, words)? {
@@ -42,7 +85,21 @@ fn read_run(alloc: Global, script: &Text, words: &[Text]) -> Result<Option<Comma
         Some(loads) => Ok(Some(Command {
             script: script.copy()?,
             loads,
+            moment,
+            precision: precision.unwrap_or(Precision::Ns),
+            skip_floats: skip.is_some(),
         })),
+    }
+}
+
+/// The value that stands alone, if one stands there; None where several do.
+fn once<T: Copy>(values: &[T]) -> Option<Option<T>>
+    ensures { result ≡ once values.now }
+{
+    match values {
+        [] => Some(None),
+        [value] => Some(Some(*value)),
+        _ => None,
     }
 }
 
@@ -52,34 +109,15 @@ fn read_loads(alloc: Global, words: &[Text]) -> Result<Option<List<Load>>, Memor
 {
     let mut loads = List::empty(alloc);
     for word in words {
-        match read_load_word(alloc, word)? {
-            None => return Ok(None),
-            Some(load) => loads.push(load)?,
-        }
-    }
-    Ok(Some(loads))
-}
-
-fn read_load_word(alloc: Global, word: &Text) -> Result<Option<Load>, Memory>
-    ensures { IfOk result (λ o. MatchOption o ((l : Load) → IsLoadWord word.now l → ⊥) (λ l. IsLoadWord word.now l)) }
-{
-    if is_option_word(word) {
-        return Ok(None);
-    }
-    match read_load(word.as_str()) {
-        None => Ok(None),
-        Some((bucket, file)) => Ok(Some(Load {
+        let Some((bucket, file)) = read_load(word.as_str()) else {
+            return Ok(None);
+        };
+        loads.push(Load {
             bucket: Text::of(alloc, bucket)?,
             file: Text::of(alloc, file)?,
-        })),
+        })?;
     }
-}
-
-fn is_option_word(word: &Text) -> bool
-    ensures { result ≡ is_option word.now }
-{
-    let bytes = word.as_bytes();
-    bytes.starts_with(b"-") && bytes.len() > 1
+    Ok(Some(loads))
 }
 
 /// The bucket and the file of a word BUCKET=FILE.

@@ -13,6 +13,7 @@ mod run;
 mod script;
 mod slices;
 mod source;
+mod words;
 
 pub use command::Command;
 pub use fx_load::LineCause;

@@ -1,10 +1,10 @@
-ghost use Rattle.std.specs.Prelude.{◌≡◌, ℕ, ◌≤◌, ◌<◌, ◌^◌, ◌-◌, List, [], length, Some, IfOk, IsTrue};
+ghost use Rattle.std.specs.Prelude.{◌≡◌, ℕ, ℤ, ◌≤◌, ◌<◌, ◌^◌, ◌-◌, List, [], length, Some, IfOk, IsTrue};
 ghost use Rattle.fx_base.specs.Outside.{Told};
 ghost use Rattle.fx_line.specs.Line.{is_factor};
 ghost use Rattle.fx_line.specs.Stored.{StoredPoint};
 ghost use Rattle.fx_load.specs.Loads.{IsTold};
 ghost use Rattle.fx_series.specs.Store.{StandsFor};
-ghost use Rattle.fx_top.specs.Command.{IsCommand};
+ghost use Rattle.fx_top.specs.Command.{IsCommand, mode_of};
 ghost use Rattle.fx_top.specs.Answer.{Answers, Asks, Causes, Writes, NamesFile, Shows, buckets_of};
 ghost use Rattle.fx_top.specs.Stage.{FileAnswers, FileCauses, RunCauses, DataAnswers, StopAnswers, IsKept};
 
@@ -45,13 +45,12 @@ fn without_script(alloc: Global, outcome: Outcome) -> Ended
 pub fn run<F: Files, O: Sink, L: Ledger>(
     alloc: Global,
     words: &[Text],
-    mode: LineMode,
+    moment: i64,
     files: &mut F,
     out: &mut O,
     steps: &mut Steps<L>,
 ) -> Ended
-    requires factor { IsTrue (is_factor mode.factor) }
-    ensures answers { (told : Told) → F.content files.old ≡ Some told → Answers mode told words.now (O.written out.old) (O.written out.new) result.outcome }
+    ensures answers { (told : Told) → F.content files.old ≡ Some told → Answers moment told words.now (O.written out.old) (O.written out.new) result.outcome }
     ensures shows { (told : Told) → F.content files.old ≡ Some told → Shows told words.now result.outcome result.script.items }
     ensures causes { Causes (F.faults files.old) (F.faults files.new) (O.faults out.old) (O.faults out.new) result.outcome }
     ensures writes { Writes (O.written out.old) (O.written out.new) result.outcome }
@@ -60,7 +59,9 @@ pub fn run<F: Files, O: Sink, L: Ledger>(
     match read_words(alloc, words) {
         Err(_) => without_script(alloc, Outcome::Memory),
         Ok(None) => without_script(alloc, Outcome::Usage),
-        Ok(Some(command)) => run_command(alloc, &command, mode, files, out, steps),
+        Ok(Some(command)) => {
+            run_command(alloc, &command, command.mode(moment), files, out, steps)
+        },
     }
 }
 
@@ -74,7 +75,7 @@ fn run_command<F: Files, O: Sink, L: Ledger>(
     steps: &mut Steps<L>,
 ) -> Ended
     requires factor { IsTrue (is_factor mode.factor) }
-    ensures answers { (told : Told) (words : List (List ℕ)) → F.content files.old ≡ Some told → IsCommand words command.now → Answers mode told words (O.written out.old) (O.written out.new) result.outcome }
+    ensures answers { (moment : ℤ) (told : Told) (words : List (List ℕ)) → mode ≡ mode_of moment command.now → F.content files.old ≡ Some told → IsCommand words command.now → Answers moment told words (O.written out.old) (O.written out.new) result.outcome }
     ensures shows { (told : Told) (words : List (List ℕ)) → F.content files.old ≡ Some told → IsCommand words command.now → Shows told words result.outcome result.script.items }
     ensures causes { Causes (F.faults files.old) (F.faults files.new) (O.faults out.old) (O.faults out.new) result.outcome }
     ensures writes { Writes (O.written out.old) (O.written out.new) result.outcome }
@@ -101,7 +102,7 @@ fn run_script<F: Files, O: Sink, L: Ledger>(
 ) -> Outcome
     requires bytes { length script.now ≤ MOST_SCRIPT_BYTES }
     requires factor { IsTrue (is_factor mode.factor) }
-    ensures answers { (told : Told) (words : List (List ℕ)) → F.content files.old ≡ Some told → IsCommand words command.now → IsTold told command.now.script MOST_SCRIPT_BYTES script.now → Answers mode told words (O.written out.old) (O.written out.new) result }
+    ensures answers { (moment : ℤ) (told : Told) (words : List (List ℕ)) → mode ≡ mode_of moment command.now → F.content files.old ≡ Some told → IsCommand words command.now → IsTold told command.now.script MOST_SCRIPT_BYTES script.now → Answers moment told words (O.written out.old) (O.written out.new) result }
     ensures causes { Causes (F.faults files.old) (F.faults files.new) (O.faults out.old) (O.faults out.new) result }
     ensures writes { Writes (O.written out.old) (O.written out.new) result }
     ensures names { (words : List (List ℕ)) → IsCommand words command.now → NamesFile words result }
@@ -125,7 +126,7 @@ fn run_query<F: Files, O: Sink, L: Ledger>(
     steps: &mut Steps<L>,
 ) -> Outcome
     requires factor { IsTrue (is_factor mode.factor) }
-    ensures answers { (told : Told) (words : List (List ℕ)) → F.content files.old ≡ Some told → Asks told words command.now query.now → Answers mode told words (O.written out.old) (O.written out.new) result }
+    ensures answers { (moment : ℤ) (told : Told) (words : List (List ℕ)) → mode ≡ mode_of moment command.now → F.content files.old ≡ Some told → Asks told words command.now query.now → Answers moment told words (O.written out.old) (O.written out.new) result }
     ensures causes { Causes (F.faults files.old) (F.faults files.new) (O.faults out.old) (O.faults out.new) result }
     ensures writes { Writes (O.written out.old) (O.written out.new) result }
     ensures names { (words : List (List ℕ)) → IsCommand words command.now → NamesFile words result }

@@ -1,18 +1,15 @@
-use Rattle.std.proofs.Common.{[], sym, subst}
-use Rattle.std.proofs.lemmas.List.{take_all}
-use Rattle.fx_top.specs.Command.{AreLoads}
-use Rattle.fx_top.proofs.CommandLemmas.{loads_on, no_loads}
+use Rattle.std.proofs.Common.{sym, subst}
+use Rattle.fx_top.specs.Command.{IsLoad}
+use Rattle.fx_top.proofs.CommandLemmas.{loaded_word, loads_on, no_loads}
 use Rattle.fx_top.proofs.command.read_loads.Goals as goal
 
-pub loop-word-init : goal.loop-word-init
-loop-word-init c = subst (AreLoads []) (sym c.empty-loads.ensures) tt
-
-pub returns-in-None : goal.returns-in-None
-returns-in-None c = no_loads c.args.words.now c.loop-word.word-index c.word-item.result c.loop-word-test.true c.word-item.is (rw c.in-None.is at c.in_ok-read_load_word.ensures)
+pub returns-in_default : goal.returns-in_default
+returns-in_default c =
+    no_loads c.args.words.now c.loop-word.word-index c.word-item.result c.loop-word-test.true c.word-item.is
+    (λ l h. c.in_default.ensures.none l.bucket l.file (subst (λ w. IsLoad w l.bucket l.file) (sym c.as_str.ensures) h))
 
 pub loop-word-preserved : goal.loop-word-preserved
 loop-word-preserved c =
-    loads_on c.args.words.now c.loop-word.loads c.push.new.self c.loop-word.word-index c.word-item.result c.in-Some.load c.loop-word-test.true c.word-item.is c.in_ok-push-in-Some.ensures.ok c.loop-word.invariant (rw c.in-Some.is at c.in_ok-read_load_word.ensures)
-
-pub returns : goal.returns
-returns c = subst (λ words. AreLoads words c.loop-word.loads) (take_all c.loop-word.word-index c.args.words.now c.loop-word-test.false) c.loop-word.invariant
+    loads_on c.args.words.now c.loop-word.loads c.push.new.self c.loop-word.word-index c.word-item.result (record { bucket = c.in_ok-of.field-0; file = c.in_ok-of-2.field-0 }) c.loop-word-test.true c.word-item.is
+    c.in_ok-push.ensures.ok c.loop-word.invariant
+    (loaded_word c.word-item.result c.as_str.result.now c.in-Some.bucket.now c.in_ok-of.field-0 c.in-Some.file.now c.in_ok-of-2.field-0 c.as_str.ensures c.in_ok-of.ensures c.in_ok-of-2.ensures c.in-Some.ensures.some)

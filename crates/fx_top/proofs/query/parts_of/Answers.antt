@@ -1,8 +1,8 @@
-use Rattle.std.proofs.Common.{codes, ap, ◌∙◌, sym, map}
+use Rattle.std.proofs.Common.{codes, map}
 use Rattle.fx_ast.specs.Shape.{tree_of, prop, props_of, script_tree}
 use Rattle.fx_ast.specs.Bare.{bare, bare_props}
 use Rattle.fx_top.specs.declared.query.Query.{Query}
-use Rattle.fx_top.specs.Query.{IsQuery, piped, called, text_arg, time_args}
+use Rattle.fx_top.specs.Query.{IsQuery, piped, called}
 use Rattle.fx_top.proofs.QueryLemmas.{if_none, from_args, range_args, sides_of, bucket_of, times_of}
 use Rattle.fx_top.proofs.query.parts_of.Goals as goal
 

@@ -1,4 +1,4 @@
-use Rattle.std.proofs.Common.{◌≡◌, ℕ, List, length, refl, sym, ◌∙◌, ap}
+use Rattle.std.proofs.Common.{◌≡◌, ℕ, List, length, sym, ◌∙◌, ap}
 use Rattle.fx_ast.specs.Tree.{tree, text, piece, no_parts}
 use Rattle.fx_ast.specs.Shape.{a_piece, tree_of, part}
 use Rattle.fx_ast.specs.Bare.{nowhere, bare}

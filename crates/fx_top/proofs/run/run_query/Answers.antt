@@ -12,9 +12,9 @@ pub load_files-requires-clause-ready : goal.load_files-requires-clause-ready
 load_files-requires-clause-ready g c = new_is_ready c.as_slice-loads.result.now c.in-Ok.store c.in-Ok.ensures
 
 pub returns-in-Ok-load_files-clause-answers : goal.returns-in-Ok-load_files-clause-answers
-returns-in-Ok-load_files-clause-answers g c = λ told words tells asks.
+returns-in-Ok-load_files-clause-answers g c = λ moment told words mode tells asks.
     let loads = c.as_slice-loads.result.now in
-    loaded_answers c.args.mode told words c.args.command.now c.args.query.now loads c.load_files.new.store (g.O.Sink.written c.args.out.now) (g.O.Sink.written c.yield_query.new.out) c.yield_query.result c.as_slice-loads.ensures asks
+    loaded_answers moment c.args.mode told words c.args.command.now c.args.query.now loads c.load_files.new.store (g.O.Sink.written c.args.out.now) (g.O.Sink.written c.yield_query.new.out) c.yield_query.result c.as_slice-loads.ensures mode asks
     (c.in-Ok-load_files.ensures.told told (buckets_of loads) [] tells c.in-Ok.ensures) c.yield_query.ensures.ends
 
 pub returns-in-Ok-load_files-clause-causes : goal.returns-in-Ok-load_files-clause-causes
@@ -34,9 +34,9 @@ returns-in-Ok-load_files-clause-names g c = λ words is.
     data_names c.args.query.now kept.buckets kept.stored (g.O.Sink.written c.args.out.now) (g.O.Sink.written c.yield_query.new.out) words c.yield_query.result (c.yield_query.ensures.ends kept.buckets kept.stored kept.stands)
 
 pub returns-clause-answers : goal.returns-clause-answers
-returns-clause-answers g c = λ told words tells asks.
+returns-clause-answers g c = λ moment told words mode tells asks.
     let loads = c.as_slice-loads.result.now in
-    stopped_answers c.args.mode told words c.args.command.now c.args.query.now loads c.in-Err.stop (g.O.Sink.written c.args.out.now) c.stop_outcome.result c.as_slice-loads.ensures asks
+    stopped_answers moment c.args.mode told words c.args.command.now c.args.query.now loads c.in-Err.stop (g.O.Sink.written c.args.out.now) c.stop_outcome.result c.as_slice-loads.ensures mode asks
     (c.in-Err.ensures.told told (buckets_of loads) [] tells c.in-Ok.ensures) c.stop_outcome.ensures
 
 pub returns-clause-causes : goal.returns-clause-causes

@@ -1,4 +1,4 @@
-use Rattle.std.proofs.Common.{◌+◌, [], sym, subst, take}
+use Rattle.std.proofs.Common.{[], sym, subst, take}
 use Rattle.fx_series.specs.Store.{StandsFor}
 use Rattle.fx_top.specs.Answer.{buckets_of}
 use Rattle.fx_top.proofs.StoreLemmas.{all_of, one_more}
