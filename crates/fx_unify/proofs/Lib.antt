@@ -10,6 +10,7 @@ pub mod JoinLaws
 pub mod JudgeLaws
 pub mod KeptLaws
 pub mod KindLaws
+pub mod KnownLaws
 pub mod LabelLaws
 pub mod LeastLaws
 pub mod LessLaws

@@ -3,6 +3,7 @@ pub mod Bounds
 pub mod Counted
 pub mod Decide
 pub mod Judge
+pub mod Known
 pub mod Least
 pub mod Light
 pub mod Measure
