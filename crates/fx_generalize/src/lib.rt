@@ -10,6 +10,7 @@ mod names;
 mod read;
 mod same;
 mod solved;
+mod unread;
 mod used;
 
 pub use solved::{Solved, VarBound};

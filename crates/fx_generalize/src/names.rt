@@ -9,6 +9,7 @@ ghost use Rattle.fx_unify.specs.View.{part_seen};
 ghost use Rattle.fx_generalize.specs.declared.names.FieldName.TheVariants as names;
 ghost use Rattle.fx_generalize.specs.Named.{place, is_field, type_place, row_place, field_place, AreNamedAmong};
 
+use crate::unread::Unread;
 use fx_base::{Memory, Text};
 use fx_unify::{Root, View, add_label};
 use std::alloc::Global;
@@ -66,24 +67,43 @@ impl Names {
 
 impl Names {
     /// The number of a type variable that has one.
-    pub(crate) fn type_number(&self, number: u32) -> Result<u32, Memory>
+    pub(crate) fn type_number(&self, number: u32) -> Result<u32, Unread>
         ensures { IfOk result (λ i. type_place self.now number ≡ Some i) }
     {
-        number_at(self.type_at(number))
+        match self.type_at(number) {
+            Some(at) => number_at(at),
+            None => Err(Unread::Type(number)),
+        }
     }
 
     /// The number of a row variable that has one.
-    pub(crate) fn row_number(&self, number: u32) -> Result<u32, Memory>
+    pub(crate) fn row_number(&self, number: u32) -> Result<u32, Unread>
         ensures { IfOk result (λ i. row_place self.now number ≡ Some i) }
     {
-        number_at(self.row_at(number))
+        match self.row_at(number) {
+            Some(at) => number_at(at),
+            None => Err(Unread::Row(number)),
+        }
     }
 
     /// The number of a field that has one.
-    pub(crate) fn field_number(&self, view: View) -> Result<u32, Memory>
+    pub(crate) fn field_number(&self, view: View, name: FieldName) -> Result<u32, Unread>
         ensures { IfOk result (λ i. field_place self.now (part_seen view.entry) ≡ Some i) }
     {
-        number_at(self.field_at(view))
+        match self.field_at(view) {
+            Some(at) => number_at(at),
+            None => Err(Unread::Field(name)),
+        }
+    }
+
+    /// Gives a number to what had none.
+    pub(crate) fn name(&mut self, unread: Unread) -> Result<(), Memory> {
+        match unread {
+            Unread::Type(number) => Ok(self.types.push(number)?),
+            Unread::Field(name) => Ok(self.fields.push(name)?),
+            Unread::Row(number) => Ok(self.rows.push(number)?),
+            Unread::Memory => Err(Memory),
+        }
     }
 
     /// Adds the labels at which a field of the root has a number of its own.
@@ -110,15 +130,12 @@ fn add_fields(fields: &[FieldName], row: u32, labels: &mut Vec<Text>) -> Result<
 }
 
 /// The number that a place is.
-fn number_at(place: Option<usize>) -> Result<u32, Memory>
-    ensures { IfOk result (λ i. place ≡ Some i) }
+fn number_at(place: usize) -> Result<u32, Unread>
+    ensures { IfOk result (λ i. place ≡ i) }
 {
-    match place {
-        Some(at) => match u32::try_from(at) {
-            Ok(number) => Ok(number),
-            Err(_) => Err(Memory),
-        },
-        None => Err(Memory),
+    match u32::try_from(place) {
+        Ok(number) => Ok(number),
+        Err(_) => Err(Unread::Memory),
     }
 }
 

@@ -11,7 +11,8 @@ ghost use Rattle.fx_unify.specs.Sums as Sums;
 ghost use Rattle.fx_unify.specs.View.{part_seen};
 ghost use Rattle.fx_generalize.specs.Named.{IsReading, IsPipeReading, IsFieldReading, IsRowReading, IsOpenRead, IsAtRoot, IsRootRead, AreLabelsRead, AreFieldsRead, AreSlotsRead};
 
-use crate::names::{Names, is_slot};
+use crate::names::{FieldName, Names, is_slot};
+use crate::unread::Unread;
 use fx_base::{Boxed, List, Memory, Text};
 use fx_types::{FieldTy, FunTy, LabelField, LabelTy, Rest, RowTy, Ty};
 use fx_unify::{Bindings, Root, View, has_label, view_of};
@@ -26,13 +27,13 @@ pub(crate) struct Reader<'a> {
 }
 
 impl<'a> Reader<'a> {
-    /// The type as it is kept. Memory where a variable has no number.
+    /// The type as it is kept. Refused at the first variable that has no number.
     #[cycle(read)]
-    pub(crate) fn read_type(&self, ty: &Ty, fuel: u64) -> Result<Ty, Memory>
+    pub(crate) fn read_type(&self, ty: &Ty, fuel: u64) -> Result<Ty, Unread>
         ensures { IfOk result (λ t. IsReading (entry self.now.bindings.now.store) self.now.names.now (term ty.now) (term t)) }
     {
         if fuel == 0 {
-            return Err(Memory);
+            return Err(Unread::Memory);
         }
         match self.bindings.head(ty)? {
             Ty::Array(element) => Ok(Ty::Array(self.read_element(element, fuel - 1)?)),
@@ -40,29 +41,29 @@ impl<'a> Reader<'a> {
             Ty::Rec(row) => Ok(Ty::Rec(self.read_boxed_row(row, fuel - 1)?)),
             Ty::Stream(row) => Ok(Ty::Stream(self.read_boxed_row(row, fuel - 1)?)),
             Ty::Var(number) => Ok(Ty::Var(self.names.type_number(*number)?)),
-            head => head.copy(self.alloc),
+            head => Ok(head.copy(self.alloc)?),
         }
     }
 
     #[cycle(read)]
-    fn read_element(&self, element: &Boxed<Ty>, fuel: u64) -> Result<Boxed<Ty>, Memory>
+    fn read_element(&self, element: &Boxed<Ty>, fuel: u64) -> Result<Boxed<Ty>, Unread>
         ensures { IfOk result (λ t. IsReading (entry self.now.bindings.now.store) self.now.names.now (term element.now) (term t)) }
     {
         let ty = self.read_type(element.get(), fuel)?;
-        Boxed::new(self.alloc, ty)
+        Ok(Boxed::new(self.alloc, ty)?)
     }
 
     #[cycle(read)]
-    fn read_function(&self, function: &Boxed<FunTy>, fuel: u64) -> Result<Boxed<FunTy>, Memory>
+    fn read_function(&self, function: &Boxed<FunTy>, fuel: u64) -> Result<Boxed<FunTy>, Unread>
         ensures { IfOk result (λ f. IsReading (entry self.now.bindings.now.store) self.now.names.now
             (fun (fun_term function.now).required (fun_term function.now).pipe (fun_term function.now).result) (fun (fun_term f).required (fun_term f).pipe (fun_term f).result)) }
     {
         let read = self.read_parts(function.get(), fuel)?;
-        Boxed::new(self.alloc, read)
+        Ok(Boxed::new(self.alloc, read)?)
     }
 
     #[cycle(read)]
-    fn read_parts(&self, function: &FunTy, fuel: u64) -> Result<FunTy, Memory>
+    fn read_parts(&self, function: &FunTy, fuel: u64) -> Result<FunTy, Unread>
         ensures { IfOk result (λ f. IsReading (entry self.now.bindings.now.store) self.now.names.now
             (fun (fun_term function.now).required (fun_term function.now).pipe (fun_term function.now).result) (fun (fun_term f).required (fun_term f).pipe (fun_term f).result)) }
     {
@@ -77,7 +78,7 @@ impl<'a> Reader<'a> {
     }
 
     #[cycle(read)]
-    fn read_labels(&self, labels: &List<LabelTy>, fuel: u64) -> Result<List<LabelTy>, Memory>
+    fn read_labels(&self, labels: &List<LabelTy>, fuel: u64) -> Result<List<LabelTy>, Unread>
         ensures { IfOk result (λ ls. AreLabelsRead (entry self.now.bindings.now.store) self.now.names.now labels.now ls) }
     {
         let mut read = List::empty(self.alloc);
@@ -90,7 +91,7 @@ impl<'a> Reader<'a> {
     }
 
     #[cycle(read)]
-    fn read_pipe(&self, pipe: &Option<Ty>, fuel: u64) -> Result<Option<Ty>, Memory>
+    fn read_pipe(&self, pipe: &Option<Ty>, fuel: u64) -> Result<Option<Ty>, Unread>
         ensures { IfOk result (λ p. IsPipeReading (entry self.now.bindings.now.store) self.now.names.now (pipe_of (option_map term pipe.now)) (pipe_of (option_map term p))) }
     {
         match pipe {
@@ -100,15 +101,15 @@ impl<'a> Reader<'a> {
     }
 
     #[cycle(read)]
-    fn read_boxed_row(&self, row: &Boxed<RowTy>, fuel: u64) -> Result<Boxed<RowTy>, Memory>
+    fn read_boxed_row(&self, row: &Boxed<RowTy>, fuel: u64) -> Result<Boxed<RowTy>, Unread>
         ensures { IfOk result (λ r. IsRowReading (entry self.now.bindings.now.store) self.now.names.now (row_term row.now) (row_term r)) }
     {
         let read = self.read_row(row.get(), fuel)?;
-        Boxed::new(self.alloc, read)
+        Ok(Boxed::new(self.alloc, read)?)
     }
 
     #[cycle(read)]
-    fn read_row(&self, row: &RowTy, fuel: u64) -> Result<RowTy, Memory>
+    fn read_row(&self, row: &RowTy, fuel: u64) -> Result<RowTy, Unread>
         ensures { IfOk result (λ r. IsRowReading (entry self.now.bindings.now.store) self.now.names.now (row_term row.now) (row_term r)) }
     {
         let fields = self.read_listed(&row.fields, fuel)?;
@@ -119,13 +120,13 @@ impl<'a> Reader<'a> {
             }
             Rest::Var(number) => {
                 let open = self.read_open(row.fields.as_slice(), *number, fuel)?;
-                over(fields, open)
+                Ok(over(fields, open)?)
             }
         }
     }
 
     #[cycle(read)]
-    fn read_listed(&self, fields: &List<LabelField>, fuel: u64) -> Result<List<LabelField>, Memory>
+    fn read_listed(&self, fields: &List<LabelField>, fuel: u64) -> Result<List<LabelField>, Unread>
         ensures { IfOk result (λ fs. AreFieldsRead (entry self.now.bindings.now.store) self.now.names.now fields.now fs) }
     {
         let mut read = List::empty(self.alloc);
@@ -140,7 +141,7 @@ impl<'a> Reader<'a> {
     /// What the row variable has, but for the labels of the hidden fields. All labels are listed at
     /// which it isn't what its root has, or where a field of its root has a number of its own.
     #[cycle(read)]
-    fn read_open(&self, hidden: &[LabelField], row: u32, fuel: u64) -> Result<RowTy, Memory>
+    fn read_open(&self, hidden: &[LabelField], row: u32, fuel: u64) -> Result<RowTy, Unread>
         ensures { IfOk result (λ r. IsOpenRead (entry self.now.bindings.now.store) self.now.names.now (Sums.names hidden.now) row (row_term r)) }
     {
         let mut labels = Vec::new(self.alloc);
@@ -161,7 +162,7 @@ impl<'a> Reader<'a> {
         root: &Root,
         labels: &[Text],
         fuel: u64,
-    ) -> Result<List<LabelField>, Memory>
+    ) -> Result<List<LabelField>, Unread>
         ensures { IfOk result (λ fs. AreSlotsRead (entry self.now.bindings.now.store) self.now.names.now row root.now (Sums.names hidden.now) labels.now fs) }
     {
         let mut read = List::empty(self.alloc);
@@ -193,7 +194,7 @@ impl<'a> Reader<'a> {
     }
 
     #[cycle(read)]
-    fn read_root(&self, root: &Root, fuel: u64) -> Result<Rest, Memory>
+    fn read_root(&self, root: &Root, fuel: u64) -> Result<Rest, Unread>
         ensures { IfOk result (λ r. IsRootRead (entry self.now.bindings.now.store) self.now.names.now root.now (rest_term r)) }
     {
         match root {
@@ -203,7 +204,7 @@ impl<'a> Reader<'a> {
     }
 
     #[cycle(read)]
-    fn read_field(&self, field: &FieldTy, fuel: u64) -> Result<FieldTy, Memory>
+    fn read_field(&self, field: &FieldTy, fuel: u64) -> Result<FieldTy, Unread>
         ensures { IfOk result (λ f. IsFieldReading (entry self.now.bindings.now.store) self.now.names.now (λ s. ground_field s (field_term field.now)) (field_term f)) }
     {
         let found = self.bindings.seen(view_of(field))?;
@@ -212,15 +213,21 @@ impl<'a> Reader<'a> {
 
     /// The field, which is no bound variable.
     #[cycle(read)]
-    fn read_view(&self, found: View, fuel: u64) -> Result<FieldTy, Memory>
+    fn read_view(&self, found: View, fuel: u64) -> Result<FieldTy, Unread>
         requires { bound_to (entry self.now.bindings.now.store) (part_seen found) ≡ None }
         ensures { IfOk result (λ f. IsFieldReading (entry self.now.bindings.now.store) self.now.names.now (λ s. value s (part_seen found.entry)) (field_term f)) }
     {
         match found {
             View::Absent => Ok(FieldTy::Absent),
             View::Is(ty) => Ok(FieldTy::Is(self.read_type(ty, fuel)?)),
-            View::Var(_) => Ok(FieldTy::Var(self.names.field_number(found)?)),
-            View::Slot(_, _) => Ok(FieldTy::Var(self.names.field_number(found)?)),
+            View::Var(number) => {
+                let name = FieldName::Var(number);
+                Ok(FieldTy::Var(self.names.field_number(found, name)?))
+            }
+            View::Slot(row, label) => {
+                let name = FieldName::Slot(row, label.copy()?);
+                Ok(FieldTy::Var(self.names.field_number(found, name)?))
+            }
         }
     }
 }

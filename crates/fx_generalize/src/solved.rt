@@ -7,7 +7,7 @@ ghost use Rattle.fx_types.specs.Size.{IsType};
 ghost use Rattle.fx_unify.specs.Judge.{AreTypes};
 ghost use Rattle.fx_unify.specs.Solutions.{HasLeast};
 ghost use Rattle.fx_unify.specs.Store.{entry};
-ghost use Rattle.fx_generalize.specs.Named.{CoversTypes, CanDrop};
+ghost use Rattle.fx_generalize.specs.Named.{IsReading, CoversTypes, CanDrop};
 ghost use Rattle.fx_generalize.specs.Solved.{IsNumbered, IsSolvedOf, numbers_terms, numbers_bounds};
 
 use crate::apart::are_apart;
@@ -17,11 +17,15 @@ use crate::kinds::bounds_of;
 use crate::names::Names;
 use crate::read::Reader;
 use crate::same::same_type;
+use crate::unread::Unread;
 use fx_base::{List, Memory};
 use fx_types::Ty;
 use fx_unify::{Bindings, numbers};
 use fx_value::Kind;
 use std::alloc::Global;
+
+/// More rounds than any machine takes: each gives a number to one variable more.
+const FUEL: u64 = u64::MAX;
 
 /// A type variable that stands for one of the kinds, or for a duration where `span` is true.
 #[derive(Debug, Drop)]
@@ -53,14 +57,8 @@ impl Solved {
     {
         see_ends(alloc, bindings)?;
         let left = bindings.left(alloc)?;
-        let names = collect_all(alloc, bindings, ty)?;
-        let reader = Reader {
-            alloc,
-            bindings,
-            names: &names,
-        };
-        let ty = reader.read_type(ty, u64::MAX)?;
-        let also = keep_types(&reader, bindings.types())?;
+        let mut names = collect_all(alloc, bindings, ty)?;
+        let Kept { ty, also } = keep(alloc, bindings, &mut names, ty)?;
         let bounds = bounds_of(alloc, left.as_slice(), names.types.as_slice())?;
         let greatest = numbers(&ty)
             .max(numbers_of(also.as_slice()))
@@ -77,14 +75,49 @@ impl Solved {
     }
 }
 
+/// A term and the terms that must be types, as they are kept.
+#[derive(Drop)]
+struct Kept {
+    ty: Ty,
+    also: List<Ty>,
+}
+
+/// Reads the terms. A variable that has no number gets one, and they are read again.
+fn keep(alloc: Global, bindings: &Bindings, names: &mut Names, ty: &Ty) -> Result<Kept, Memory>
+    ensures reading { IfOk result (λ k. IsReading (entry bindings.now.store) names.new (term ty.now) (term k.ty)) }
+    ensures covers { IfOk result (λ k. CoversTypes (entry bindings.now.store) names.new bindings.now.also.items k.also) }
+{
+    for _round in 0..FUEL {
+        match read_kept(alloc, bindings, names, ty) {
+            Ok(kept) => return Ok(kept),
+            Err(unread) => names.name(unread)?,
+        }
+    }
+    Err(Memory)
+}
+
+fn read_kept(alloc: Global, bindings: &Bindings, names: &Names, ty: &Ty) -> Result<Kept, Unread>
+    ensures reading { IfOk result (λ k. IsReading (entry bindings.now.store) names.now (term ty.now) (term k.ty)) }
+    ensures covers { IfOk result (λ k. CoversTypes (entry bindings.now.store) names.now bindings.now.also.items k.also) }
+{
+    let reader = Reader {
+        alloc,
+        bindings,
+        names,
+    };
+    let ty = reader.read_type(ty, u64::MAX)?;
+    let also = keep_types(&reader, bindings.types())?;
+    Ok(Kept { ty, also })
+}
+
 /// The terms that share a variable with those of the reader, each once.
-fn keep_types(reader: &Reader, types: &[Ty]) -> Result<List<Ty>, Memory>
+fn keep_types(reader: &Reader, types: &[Ty]) -> Result<List<Ty>, Unread>
     ensures { IfOk result (CoversTypes (entry reader.now.bindings.now.store) reader.now.names.now types.now) }
 {
     let mut kept = List::empty(reader.alloc);
     for ty in types {
-        let own = collect(reader.alloc, reader.bindings, ty)?;
-        if is_apart(reader, &own, ty)? {
+        let mut own = collect(reader.alloc, reader.bindings, ty)?;
+        if is_apart(reader, &mut own, ty)? {
             continue;
         }
         let read = reader.read_type(ty, u64::MAX)?;
@@ -108,20 +141,40 @@ fn has_type(types: &[Ty], ty: &Ty) -> bool
     false
 }
 
-/// Whether the term shares no variable with those of the reader.
-fn is_apart(reader: &Reader, own: &Names, ty: &Ty) -> Result<bool, Memory>
-    ensures { IfOk result (λ b. b ≡ true → CanDrop (entry reader.now.bindings.now.store) reader.now.names.now own.now (term ty.now)) }
+/// Whether the term shares no variable with those of the reader. Its own variables all get numbers
+/// where it seems so.
+fn is_apart(reader: &Reader, own: &mut Names, ty: &Ty) -> Result<bool, Memory>
+    ensures { IfOk result (λ b. b ≡ true → CanDrop (entry reader.now.bindings.now.store) reader.now.names.now own.new (term ty.now)) }
 {
     if !are_apart(reader.names, own) {
         return Ok(false);
     }
-    let alone = Reader {
-        alloc: reader.alloc,
-        bindings: reader.bindings,
-        names: own,
+    read_alone(reader.alloc, reader.bindings, own, ty)?;
+    Ok(are_apart(reader.names, own))
+}
+
+/// Reads the term. A variable that has no number gets one, and it is read again.
+fn read_alone(alloc: Global, bindings: &Bindings, names: &mut Names, ty: &Ty) -> Result<Ty, Memory>
+    ensures { IfOk result (λ t. IsReading (entry bindings.now.store) names.new (term ty.now) (term t)) }
+{
+    for _round in 0..FUEL {
+        match read_with(alloc, bindings, names, ty) {
+            Ok(read) => return Ok(read),
+            Err(unread) => names.name(unread)?,
+        }
+    }
+    Err(Memory)
+}
+
+fn read_with(alloc: Global, bindings: &Bindings, names: &Names, ty: &Ty) -> Result<Ty, Unread>
+    ensures { IfOk result (λ t. IsReading (entry bindings.now.store) names.now (term ty.now) (term t)) }
+{
+    let reader = Reader {
+        alloc,
+        bindings,
+        names,
     };
-    alone.read_type(ty, u64::MAX)?;
-    Ok(true)
+    reader.read_type(ty, u64::MAX)
 }
 
 /// The numbers of the terms' variables: one more than the greatest, or 0 where there is none.

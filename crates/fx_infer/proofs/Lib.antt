@@ -5,7 +5,6 @@ pub mod InfersLaws
 pub mod ListLaws
 pub mod RuleLaws
 pub mod ScriptLaws
-pub mod SeenLaws
 pub mod TypingLaws
 pub mod UseLaws
 pub mod WordLaws

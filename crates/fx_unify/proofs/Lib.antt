@@ -10,6 +10,7 @@ pub mod JoinLaws
 pub mod JudgeLaws
 pub mod KeptLaws
 pub mod KindLaws
+pub mod KnownLaws
 pub mod LabelLaws
 pub mod LeastLaws
 pub mod LessLaws
@@ -22,7 +23,9 @@ pub mod PlainRowLaws
 pub mod PlainestLaws
 pub mod RowLaws
 pub mod RunLaws
+pub mod SeenLaws
 pub mod SolvingLaws
 pub mod StoreLaws
 pub mod SumLaws
 pub mod WeighLaws
+pub mod WithinLaws

@@ -3,6 +3,7 @@ pub mod Bounds
 pub mod Counted
 pub mod Decide
 pub mod Judge
+pub mod Known
 pub mod Least
 pub mod Light
 pub mod Measure
@@ -11,6 +12,7 @@ pub mod Pick
 pub mod Plainest
 pub mod PutIn
 pub mod Rows
+pub mod Seen
 pub mod Smaller
 pub mod Solutions
 pub mod Sorts

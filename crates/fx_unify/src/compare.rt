@@ -30,8 +30,8 @@ impl Store {
         ensures { OnOk result ((s : Solution) → Holds s self.new ↔ (Holds s self.old × (ground_row s (row_term a) ≡ ground_row s (row_term b)))) }
     {
         let mut labels = Vec::new(alloc);
-        add_names(&mut labels, a.fields.as_slice())?;
-        add_names(&mut labels, b.fields.as_slice())?;
+        add_names(alloc, &mut labels, a.fields.as_slice())?;
+        add_names(alloc, &mut labels, b.fields.as_slice())?;
         let tails = self.tails(alloc, &a.rest, &b.rest, &mut labels)?;
         put_off_all(alloc, &mut self.work, labels.as_slice(), a, b)?;
         self.meet(alloc, tails, labels.as_slice())

@@ -51,7 +51,7 @@ impl Store {
     {
         let mut current = row;
         for _step in 0..FUEL {
-            self.add_kept(current, labels)?;
+            self.add_kept(alloc, current, labels)?;
             match self.rest_of(current) {
                 Some(Root::Default(field)) => return Ok(Root::Default(field.copy(alloc)?)),
                 Some(Root::Var(next)) => current = *next,
@@ -62,11 +62,16 @@ impl Store {
     }
 
     /// Adds the labels at which the row variable is kept apart from its rest.
-    pub(crate) fn add_kept(&self, row: u32, labels: &mut Vec<Text>) -> Result<(), Memory>
+    pub(crate) fn add_kept(
+        &self,
+        alloc: Global,
+        row: u32,
+        labels: &mut Vec<Text>,
+    ) -> Result<(), Memory>
         ensures kept { OnOk result (AreKept self.now row labels.new.items) }
         ensures grows { OnOk result (Grows labels.old.items labels.new.items) }
     {
-        add_slots(labels, self.slots_of(row))?;
-        add_texts(labels, self.apart_of(row))
+        add_slots(alloc, labels, self.slots_of(row))?;
+        add_texts(alloc, labels, self.apart_of(row))
     }
 }

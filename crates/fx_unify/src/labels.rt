@@ -9,9 +9,11 @@ ghost use Rattle.fx_unify.specs.Store.{slot_names};
 ghost use Rattle.fx_unify.specs.Sums.{names, required_names};
 
 use crate::fault::UnifyFault;
+use crate::known::Known;
 use crate::store::Slot;
 use fx_base::{Memory, Text};
 use fx_types::{LabelField, LabelTy};
+use std::alloc::Global;
 
 /// Whether one of the entries has this label.
 pub fn has_label(entries: &[LabelField], label: &Text) -> bool
@@ -62,34 +64,45 @@ pub fn add_label(labels: &mut Vec<Text>, label: &Text) -> Result<(), Memory>
 }
 
 /// Adds the labels of the entries.
-pub(crate) fn add_names(labels: &mut Vec<Text>, entries: &[LabelField]) -> Result<(), Memory>
+pub(crate) fn add_names(
+    alloc: Global,
+    labels: &mut Vec<Text>,
+    entries: &[LabelField],
+) -> Result<(), Memory>
     ensures there { OnOk result ((l : Label) → listed l (names entries.now) ≡ true → listed l labels.new.items ≡ true) }
     ensures grows { OnOk result (Grows labels.old.items labels.new.items) }
 {
+    let mut known = Known::of(alloc, labels.as_slice(), entries.len())?;
     for entry in entries {
-        add_label(labels, &entry.label)?;
+        known.add(labels, &entry.label)?;
     }
     Ok(())
 }
 
 /// Adds the labels of the slots.
-pub(crate) fn add_slots(labels: &mut Vec<Text>, slots: &[Slot]) -> Result<(), Memory>
+pub(crate) fn add_slots(alloc: Global, labels: &mut Vec<Text>, slots: &[Slot]) -> Result<(), Memory>
     ensures there { OnOk result ((l : Label) → listed l (slot_names slots.now) ≡ true → listed l labels.new.items ≡ true) }
     ensures grows { OnOk result (Grows labels.old.items labels.new.items) }
 {
+    let mut known = Known::of(alloc, labels.as_slice(), slots.len())?;
     for slot in slots {
-        add_label(labels, &slot.label)?;
+        known.add(labels, &slot.label)?;
     }
     Ok(())
 }
 
 /// Adds labels.
-pub(crate) fn add_texts(labels: &mut Vec<Text>, others: &[Text]) -> Result<(), Memory>
+pub(crate) fn add_texts(
+    alloc: Global,
+    labels: &mut Vec<Text>,
+    others: &[Text],
+) -> Result<(), Memory>
     ensures there { OnOk result ((l : Label) → listed l others.now ≡ true → listed l labels.new.items ≡ true) }
     ensures grows { OnOk result (Grows labels.old.items labels.new.items) }
 {
+    let mut known = Known::of(alloc, labels.as_slice(), others.len())?;
     for label in others {
-        add_label(labels, label)?;
+        known.add(labels, label)?;
     }
     Ok(())
 }

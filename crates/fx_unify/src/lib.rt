@@ -18,6 +18,7 @@ mod head;
 mod heads;
 mod join;
 mod kept;
+mod known;
 mod labels;
 mod later;
 mod light;

@@ -103,7 +103,7 @@ impl Store {
         ensures ready { IfOk result (λ t. IsReady self.now t labels.new.items) }
         ensures grows { OnOk result (Grows labels.old.items labels.new.items) }
     {
-        self.add_kept(row, labels)?;
+        self.add_kept(alloc, row, labels)?;
         Ok(Tails::Link(row, Root::of(alloc, rest)?))
     }
 }

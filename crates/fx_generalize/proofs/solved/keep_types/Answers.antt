@@ -5,7 +5,7 @@ use Rattle.fx_generalize.proofs.solved.keep_types.Goals as goal
 pub loop-ty-preserved-then-branch : goal.loop-ty-preserved-then-branch
 loop-ty-preserved-then-branch c =
     let h = c.in_ok-is_apart.ensures c.if-branch.true in
-    apart_covered (entry c.args.reader.now.bindings.now.store) c.args.reader.now.names.now c.args.types.now c.loop-ty.ty-index c.ty-item.result c.loop-ty-test.true c.ty-item.is c.loop-ty.kept c.loop-ty.invariant c.in_ok-own.own
+    apart_covered (entry c.args.reader.now.bindings.now.store) c.args.reader.now.names.now c.args.types.now c.loop-ty.ty-index c.ty-item.result c.loop-ty-test.true c.ty-item.is c.loop-ty.kept c.loop-ty.invariant c.is_apart.new.own
     h.1.0 h.0 h.1.1
 
 pub loop-ty-preserved : goal.loop-ty-preserved

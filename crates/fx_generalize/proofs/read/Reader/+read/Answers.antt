@@ -49,12 +49,11 @@ read_row-returns-in_ok-read_field-in-Default t c =
     closed_read (entry c.args.self.now.bindings.now.store) c.args.self.now.names.now c.args.row.now c.in-Default.field c.in_ok-read_field-in-Default.field-0 c.in_ok-fields.fields c.in-Default.is c.in_ok-fields.ensures
     c.in_ok-read_field-in-Default.ensures
 
-pub read_row-returns-in_ok-open-in-Var : goal.read_row-returns-in_ok-open-in-Var
-read_row-returns-in_ok-open-in-Var t c =
-    if_ok c.over.result
-    (λ x h. row_over (entry c.args.self.now.bindings.now.store) c.args.self.now.names.now c.args.row.now c.in-Var.number c.in_ok-open-in-Var.open x c.in_ok-fields.fields c.in-Var.is c.in_ok-fields.ensures
-    (subst (λ es. IsOpenRead (entry c.args.self.now.bindings.now.store) c.args.self.now.names.now (names es) c.in-Var.number (row_term c.in_ok-open-in-Var.open)) c.as_slice.ensures c.in_ok-open-in-Var.ensures) h)
-    c.over.ensures
+pub read_row-returns-in_ok-over-in-Var : goal.read_row-returns-in_ok-over-in-Var
+read_row-returns-in_ok-over-in-Var t c =
+    row_over (entry c.args.self.now.bindings.now.store) c.args.self.now.names.now c.args.row.now c.in-Var.number c.in_ok-open-in-Var.open c.in_ok-over-in-Var.field-0 c.in_ok-fields.fields c.in-Var.is c.in_ok-fields.ensures
+    (subst (λ es. IsOpenRead (entry c.args.self.now.bindings.now.store) c.args.self.now.names.now (names es) c.in-Var.number (row_term c.in_ok-open-in-Var.open)) c.as_slice.ensures c.in_ok-open-in-Var.ensures)
+    c.in_ok-over-in-Var.ensures
 
 pub read_slots-loop-at-preserved-then-has_label : goal.read_slots-loop-at-preserved-then-has_label
 read_slots-loop-at-preserved-then-has_label t c =
@@ -104,12 +103,10 @@ read_type-returns-in_ok-type_number-in-Var t c =
     type_variable_read (entry c.args.self.now.bindings.now.store) c.args.self.now.names.now c.args.ty.now c.in_ok-head.head.now c.in_ok-head.ensures.same c.in-Var.number c.in_ok-type_number-in-Var.field-0 c.in-Var.is
     c.in_ok-head.ensures.free c.in_ok-type_number-in-Var.ensures
 
-pub read_type-returns-in_default : goal.read_type-returns-in_default
-read_type-returns-in_default t c =
-    if_ok c.copy.result
-    (λ x h. bare_read (entry c.args.self.now.bindings.now.store) c.args.self.now.names.now c.args.ty.now c.in_ok-head.head.now c.in_ok-head.ensures.same x h c.in_default.not-Var c.in_default.not-Array c.in_default.not-Fun
-    c.in_default.not-Rec c.in_default.not-Stream)
-    c.copy.ensures
+pub read_type-returns-in_ok-copy-in_default : goal.read_type-returns-in_ok-copy-in_default
+read_type-returns-in_ok-copy-in_default t c =
+    bare_read (entry c.args.self.now.bindings.now.store) c.args.self.now.names.now c.args.ty.now c.in_ok-head.head.now c.in_ok-head.ensures.same c.in_ok-copy-in_default.field-0 c.in_ok-copy-in_default.ensures
+    c.in_default.not-Var c.in_default.not-Array c.in_default.not-Fun c.in_default.not-Rec c.in_default.not-Stream
 
 pub read_view-returns-in-Absent : goal.read_view-returns-in-Absent
 read_view-returns-in-Absent t c = view_absent (entry c.args.self.now.bindings.now.store) c.args.self.now.names.now c.args.found c.in-Absent.is
@@ -121,10 +118,10 @@ read_view-returns-in_ok-read_type-in-Is t c =
 
 pub read_view-returns-in_ok-field_number-in-Var : goal.read_view-returns-in_ok-field_number-in-Var
 read_view-returns-in_ok-field_number-in-Var t c =
-    view_variable (entry c.args.self.now.bindings.now.store) c.args.self.now.names.now (part_seen c.args.found) c.in-Var.field-0 c.in_ok-field_number-in-Var.field-0 (ap part_seen c.in-Var.is) c.requires
+    view_variable (entry c.args.self.now.bindings.now.store) c.args.self.now.names.now (part_seen c.args.found) c.in-Var.number c.in_ok-field_number-in-Var.field-0 (ap part_seen c.in-Var.is) c.requires
     c.in_ok-field_number-in-Var.ensures
 
 pub read_view-returns-in_ok-field_number-in-Slot : goal.read_view-returns-in_ok-field_number-in-Slot
 read_view-returns-in_ok-field_number-in-Slot t c =
-    view_slot (entry c.args.self.now.bindings.now.store) c.args.self.now.names.now (part_seen c.args.found) c.in-Slot.field-0 _ c.in_ok-field_number-in-Slot.field-0 (ap part_seen c.in-Slot.is) c.requires
+    view_slot (entry c.args.self.now.bindings.now.store) c.args.self.now.names.now (part_seen c.args.found) c.in-Slot.row _ c.in_ok-field_number-in-Slot.field-0 (ap part_seen c.in-Slot.is) c.requires
     c.in_ok-field_number-in-Slot.ensures

@@ -1,0 +1,9 @@
+-- Hashed labels.
+use Rattle.std.specs.Prelude.{◌≡◌, true, List}
+use Rattle.fx_types.specs.Ground.{listed}
+use Rattle.fx_types.specs.Term.{Label}
+use Rattle.fx_unify.specs.declared.known.Known as declared
+
+-- where labels are hashed, they are those of the list
+abbrev pub Knows : declared.Known → List Label → Type 0
+Knows k ls = k.many ≡ true → (l : Label) → listed l k.labels.keys ≡ listed l ls
