@@ -12,18 +12,16 @@ use Rattle.fx_schemes.specs.Given.{Given}
 use Rattle.fx_schemes.specs.Line.{Line, value}
 use Rattle.fx_schemes.specs.Signature.{form_of}
 use Rattle.fx_schemes.specs.declared.list.Builtin.{Builtin}
-use Rattle.fx_ast.specs.Free.{free}
-use Rattle.fx_ast.specs.Tree.{Props, Tree}
+use Rattle.fx_ast.specs.Tree.{Props}
 use Rattle.fx_meaning.specs.declared.native.Native.{Native}
 use Rattle.fx_meaning.specs.declared.setting.Setting.{Setting}
-use Rattle.fx_meaning.specs.Meaning.{Calls, Tests, applied_to, entered, meaning, means, nested, piped_to}
+use Rattle.fx_meaning.specs.Meaning.{Calls, Tests, applied_to, entered, nested, piped_to}
 use Rattle.fx_meaning.specs.Native.{native_builtin, value_of}
 use Rattle.fx_meaning.specs.Value.{Val, cell, span, pattern, array, rec, closure, native, in_package, stream, shown, Slots, look, push}
 use Rattle.fx_infer.specs.Arguments.{IsCall, IsLineAt, IsPipe}
 use Rattle.fx_infer.specs.Ask.{IsFunction}
-use Rattle.fx_infer.specs.Environment.{Env, HasType}
 use Rattle.fx_infer.specs.Parameters.{line_of, type_of}
-use Rattle.fx_build.specs.Fit.{Meets, fits, with_input}
+use Rattle.fx_build.specs.Fit.{fits, with_input}
 use Rattle.fx_build.specs.Safe.{IsSafe}
 use Rattle.fx_build.specs.Said.{said_in}
 use Rattle.fx_build.proofs.Applied.{AllSuit, CallsAreSafe, call_along, call_suits, literal_called, literal_piped, pipe_along, piped_runs, pushed_at}
@@ -33,7 +31,7 @@ use Rattle.fx_build.proofs.FoldLaws.{words_said}
 use Rattle.fx_build.proofs.NameLaws.{HasLine, IsBuilt, Obeys, is_built}
 use Rattle.fx_build.proofs.NativeLaws.{pipe_facts, pipe_label_is, said_push, says_nothing}
 use Rattle.fx_build.proofs.ParamLaws.{Suits, absent_suits, suits, takes_row}
-use Rattle.fx_build.proofs.SafeLaws.{safe_cut, safe_every, safe_later}
+use Rattle.fx_build.proofs.SafeLaws.{safe_later}
 use Rattle.fx_build.proofs.Sound.{tree_fits}
 
 -- a built-in by itself, called with the words of a line and with arguments for all else that it takes
@@ -198,16 +196,3 @@ module _ (test : Tests) (runs : (calls : Calls) (g : Native) → NativeRuns call
   nested_safe (suc n) ps lets e captured args setting env P t h met served =
       safe_later (λ v. fits v t) 1 (entered test (nested test n) setting ps lets e captured args)
       (entered_safe test (nested test n) setting met.0 (trees_fit (nested test n) (nested_safe n) setting met.0) ps lets e captured args env P t h met.1 served)
-
-  -- a typed expression, in values that meet its environment, isn't stuck under any limit, and its value fits the type
-  pub expression_safe : (setting : Setting) (env : Env) (slots : Slots) (e : Tree) (t : Ground) (limit : ℕ) → Meets (free e) setting env slots → HasType env e t
-      → IsSafe (λ v. fits v t) (meaning test setting e slots limit)
-  expression_safe setting env slots e t limit met h =
-      safe_cut (λ v. fits v t) limit (means test (nested test limit) setting e slots)
-      (trees_fit (nested test limit) (nested_safe limit) setting met.0 env slots e t met.1 h)
-
-  -- and its value fits every type that it has
-  pub every_type_safe : (setting : Setting) (env : Env) (slots : Slots) (e : Tree) (t : Ground) (limit : ℕ) → Meets (free e) setting env slots → HasType env e t
-      → IsSafe (λ v. (u : Ground) → HasType env e u → fits v u) (meaning test setting e slots limit)
-  every_type_safe setting env slots e t limit met h =
-      safe_every (HasType env e) (λ u v. fits v u) (meaning test setting e slots limit) (λ u k. expression_safe setting env slots e u limit met k) t h

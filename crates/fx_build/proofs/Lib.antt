@@ -18,6 +18,9 @@ pub mod SafeLaws
 pub mod ScalarCalls
 pub mod SlotLaws
 pub mod Sound
+pub mod Soundness
+pub mod StreamCalls
+pub mod StreamLines
 pub mod TakenLaws
 pub mod WordLaws
 pub mod Worked

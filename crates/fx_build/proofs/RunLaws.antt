@@ -1,4 +1,4 @@
--- The run of a script with a typing isn't stuck, over built-ins whose calls are safe and streams whose yields are.
+-- The run of a script with a typing isn't stuck, over streams whose yields aren't.
 use Rattle.std.proofs.Common.{◌≡◌, refl, sym, subst, ◌∙◌, Bool, true, false, ◌||◌, ℕ, ◌-◌, ◌<◌, ◌^◌, map, List, [], ◌∷◌, Some, IsTrue}
 use Rattle.std.specs.Prelude.{if◌then◌else◌, codes}
 use Rattle.std.proofs.lemmas.Bool.{or_left, or_right}
@@ -16,13 +16,12 @@ use Rattle.fx_types.specs.Ground.{Ground, GroundRow, g_done, g_stream, listed}
 use Rattle.fx_types.proofs.Choices.{by_cases, chosen, passed}
 use Rattle.fx_ast.specs.Free.{Need, name_of, pattern_at, free, is_named, unless}
 use Rattle.fx_ast.specs.Tree.{Tree, StatementForm, import, assign, task, show, StatementTree}
-use Rattle.fx_meaning.specs.declared.native.Native.{Native}
 use Rattle.fx_meaning.specs.declared.package.Package.{Package}
 use Rattle.fx_meaning.specs.declared.package.Package.TheVariants as p
 use Rattle.fx_meaning.specs.declared.setting.Setting.{Setting}
 use Rattle.fx_meaning.specs.Ends.{fault_at}
 use Rattle.fx_meaning.specs.Natives.{is_name}
-use Rattle.fx_meaning.specs.Meaning.{Calls, Tests, meaning, means, nested, numbered}
+use Rattle.fx_meaning.specs.Meaning.{Tests, meaning, means, nested, numbered}
 use Rattle.fx_meaning.specs.Native.{path_of}
 use Rattle.fx_meaning.specs.Value.{Val, in_package, stream, shown, Slots, no_slots, push, Stream}
 use Rattle.fx_infer.specs.Environment.{Env, assigned, imported, HasType}
@@ -31,9 +30,9 @@ use Rattle.fx_build.specs.Bound.{defined}
 use Rattle.fx_build.specs.Fit.{fits, keeps, stream_fits}
 use Rattle.fx_build.specs.Run.{Run, ended, go_on, shows, imported_as, package_among, script_run, shown_value, statement_run, statements_run, yielded, yielded_under}
 use Rattle.fx_build.specs.Safe.{IsSafe}
-use Rattle.fx_build.proofs.Callable.{NativeRuns, nested_safe, trees_fit}
 use Rattle.fx_build.proofs.Entered.{MetBy, defined_safe, push_met}
 use Rattle.fx_build.proofs.SafeLaws.{safe_cut, safe_later}
+use Rattle.fx_build.proofs.Soundness.{nested_trees}
 
 -- what statements need
 abbrev pub needed_by : StatementForm → (Need → Bool) → Need → Bool
@@ -66,7 +65,7 @@ package_found (x ∷ xs) path h =
     (let k = package_found xs path (sym (passed (same_text path (path_of x)) true (listed path (map path_of xs)) e) ∙ h) in
     (k.0, passed (same_text path (path_of x)) (Some x) (package_among path xs) e ∙ k.1, k.2)))
 
-module _ {T : Type 0} (test : Tests) (setting : Setting) (moment : IsTrue (in_64_bits setting.moment)) (tables : Stream → ℕ → End T) (runs : (calls : Calls) (g : Native) → NativeRuns calls g)
+module _ {T : Type 0} (test : Tests) (setting : Setting) (moment : IsTrue (in_64_bits setting.moment)) (tables : Stream → ℕ → End T)
     (shows_safely : (call : Stream) (r : GroundRow) (limit : ℕ) → stream_fits call (g_stream r) → IsSafe (λ made. Unit {0}) (tables call limit)) where
   either_safe : (c : Bool) (a b : Run T) → IsSafeRun a → IsSafeRun b → IsSafeRun (if c then a else b)
   either_safe true a b h k = h
@@ -97,7 +96,7 @@ module _ {T : Type 0} (test : Tests) (setting : Setting) (moment : IsTrue (in_64
   shown_safe place _ t earlier limit next fit rest = rest earlier limit
 
   trees : (limit : ℕ) (env : Env) (slots : Slots) (e : Tree) (t : Ground) → MetBy setting env slots (free e) → HasType env e t → IsSafe (λ v. fits v t) (means test (nested test limit) setting e slots)
-  trees limit = trees_fit test runs (nested test limit) (nested_safe test runs limit) setting moment
+  trees limit = nested_trees test limit setting moment
 
   -- a statement that keeps the rules
   statement_safe : (place : Place) (form : StatementForm) (env : Env) (slots : Slots) (earlier : List Label) (limit : ℕ) (later : Need → Bool) (next : Slots → List Label → ℕ → Run T)
