@@ -43,13 +43,13 @@ NativeRuns calls g =
     → IsSafe (λ v. fits v t) (applied_to calls place moment args (native g))
 
 -- a function as a value is a literal or a built-in, each with a line of its type
-abbrev IsNativeAt : Val → Line → Type 0
+abbrev pub IsNativeAt : Val → Line → Type 0
 IsNativeAt v L = (g : Native) × (v ≡ native g) × IsLine (native_builtin g) [] L
 
-abbrev HasALine : Val → Ground → Type 0
+abbrev pub HasALine : Val → Ground → Type 0
 HasALine v t = (L : Line) × (L.type ≡ t) × IsType L.type × (HasLine v L ⊎ IsNativeAt v L)
 
-lined : (v : Val) (needs : GroundRow) (input : GroundField) (t : Ground) → fits v (g_fun needs input t) → HasALine v (g_fun needs input t)
+pub lined : (v : Val) (needs : GroundRow) (input : GroundField) (t : Ground) → fits v (g_fun needs input t) → HasALine v (g_fun needs input t)
 lined (closure ps lets e captured setting) needs input t h =
     let k = h.1.1 in
     let is : IsType (type_of ps k.0 k.1) = subst IsType (sym k.2) h.1.0 in
@@ -63,6 +63,13 @@ lined (rec fields) needs input t h = absurd h
 lined (in_package p) needs input t h = absurd h
 lined (stream c) needs input t h = absurd h
 lined (shown a p c) needs input t h = absurd h
+
+-- where nothing more is allowed, what else is allowed doesn't matter
+allowed : (needs optional : GroundField) (o : Option Val) → Suits o needs g_absent → Suits o needs optional
+allowed (g_is t) optional (Some v) h = h
+allowed (g_is t) optional None h = h
+allowed g_absent optional (Some v) h = absurd h
+allowed g_absent optional None h = tt
 
 module _ (calls : Calls) (safe : CallsAreSafe calls) (runs : (g : Native) → NativeRuns calls g)
     (place : Place) (moment : ℤ) (within : IsTrue (in_64_bits moment)) where
@@ -109,6 +116,17 @@ module _ (calls : Calls) (safe : CallsAreSafe calls) (runs : (g : Native) → Na
       let type : u ≡ g_fun called.0 called.1 t = sym (ap (λ l. l.type) line) ∙ called.2 in
       let k = lined v called.0 called.1 t (subst (fits v) type fit) in
       unnamed_called ps w k.0 r t v args k.3 k.2 given (call_along u k.0 r t (k.1 ∙ sym type) (subst (λ l. IsCall r l t) line called))
+
+  by_itself : (p : Option Label) (needs : GroundRow) (optional : GroundField) (o : Option Val) (l : Label) → Suits o (needs l) g_absent → Suits o (with_input p g_absent needs l) optional
+  by_itself None needs optional o l h = allowed (needs l) optional o h
+  by_itself (Some x) needs optional o l h = allowed (needs l) optional o h
+
+  -- a function as a value, with values for all that its type takes
+  pub function_applied : (v : Val) (needs : GroundRow) (t : Ground) (args : Slots) → fits v (g_fun needs g_absent t) → ((l : Label) → Suits (look l args) (needs l) g_absent)
+      → IsSafe (λ y. fits y t) (applied_to calls place moment args v)
+  function_applied v needs t args fit suit =
+      let k = lined v needs g_absent t fit in
+      line_called v k.0 needs g_absent t args k.1 k.2 k.3 (λ l. by_itself k.0.pipe_label needs (k.0.optional l) (look l args) l (suit l))
 
   -- a built-in by its name
   truth_or_native : (x : Builtin) (w : Given) (L : Line) (v : Val) → IsBuilt x → IsLineAt (Obeys v) (Some x) w L → (g : Native) × (v ≡ native g) × (native_builtin g ≡ x)
