@@ -4,5 +4,6 @@ pub mod Rows
 pub mod Run
 pub mod Safe
 pub mod Said
+pub mod Sound
 pub mod Sources
 pub mod Streams
