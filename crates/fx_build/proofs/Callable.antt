@@ -12,18 +12,16 @@ use Rattle.fx_schemes.specs.Given.{Given}
 use Rattle.fx_schemes.specs.Line.{Line, value}
 use Rattle.fx_schemes.specs.Signature.{form_of}
 use Rattle.fx_schemes.specs.declared.list.Builtin.{Builtin}
-use Rattle.fx_ast.specs.Free.{free}
-use Rattle.fx_ast.specs.Tree.{Props, Tree}
+use Rattle.fx_ast.specs.Tree.{Props}
 use Rattle.fx_meaning.specs.declared.native.Native.{Native}
 use Rattle.fx_meaning.specs.declared.setting.Setting.{Setting}
-use Rattle.fx_meaning.specs.Meaning.{Calls, Tests, applied_to, entered, meaning, means, nested, piped_to}
+use Rattle.fx_meaning.specs.Meaning.{Calls, Tests, applied_to, entered, nested, piped_to}
 use Rattle.fx_meaning.specs.Native.{native_builtin, value_of}
 use Rattle.fx_meaning.specs.Value.{Val, cell, span, pattern, array, rec, closure, native, in_package, stream, shown, Slots, look, push}
 use Rattle.fx_infer.specs.Arguments.{IsCall, IsLineAt, IsPipe}
 use Rattle.fx_infer.specs.Ask.{IsFunction}
-use Rattle.fx_infer.specs.Environment.{Env, HasType}
 use Rattle.fx_infer.specs.Parameters.{line_of, type_of}
-use Rattle.fx_build.specs.Fit.{Meets, fits, with_input}
+use Rattle.fx_build.specs.Fit.{fits, with_input}
 use Rattle.fx_build.specs.Safe.{IsSafe}
 use Rattle.fx_build.specs.Said.{said_in}
 use Rattle.fx_build.proofs.Applied.{AllSuit, CallsAreSafe, call_along, call_suits, literal_called, literal_piped, pipe_along, piped_runs, pushed_at}
@@ -33,7 +31,7 @@ use Rattle.fx_build.proofs.FoldLaws.{words_said}
 use Rattle.fx_build.proofs.NameLaws.{HasLine, IsBuilt, Obeys, is_built}
 use Rattle.fx_build.proofs.NativeLaws.{pipe_facts, pipe_label_is, said_push, says_nothing}
 use Rattle.fx_build.proofs.ParamLaws.{Suits, absent_suits, suits, takes_row}
-use Rattle.fx_build.proofs.SafeLaws.{safe_cut, safe_every, safe_later}
+use Rattle.fx_build.proofs.SafeLaws.{safe_later}
 use Rattle.fx_build.proofs.Sound.{tree_fits}
 
 -- a built-in by itself, called with the words of a line and with arguments for all else that it takes
@@ -45,13 +43,13 @@ NativeRuns calls g =
     → IsSafe (λ v. fits v t) (applied_to calls place moment args (native g))
 
 -- a function as a value is a literal or a built-in, each with a line of its type
-abbrev IsNativeAt : Val → Line → Type 0
+abbrev pub IsNativeAt : Val → Line → Type 0
 IsNativeAt v L = (g : Native) × (v ≡ native g) × IsLine (native_builtin g) [] L
 
-abbrev HasALine : Val → Ground → Type 0
+abbrev pub HasALine : Val → Ground → Type 0
 HasALine v t = (L : Line) × (L.type ≡ t) × IsType L.type × (HasLine v L ⊎ IsNativeAt v L)
 
-lined : (v : Val) (needs : GroundRow) (input : GroundField) (t : Ground) → fits v (g_fun needs input t) → HasALine v (g_fun needs input t)
+pub lined : (v : Val) (needs : GroundRow) (input : GroundField) (t : Ground) → fits v (g_fun needs input t) → HasALine v (g_fun needs input t)
 lined (closure ps lets e captured setting) needs input t h =
     let k = h.1.1 in
     let is : IsType (type_of ps k.0 k.1) = subst IsType (sym k.2) h.1.0 in
@@ -65,6 +63,13 @@ lined (rec fields) needs input t h = absurd h
 lined (in_package p) needs input t h = absurd h
 lined (stream c) needs input t h = absurd h
 lined (shown a p c) needs input t h = absurd h
+
+-- where nothing more is allowed, what else is allowed doesn't matter
+allowed : (needs optional : GroundField) (o : Option Val) → Suits o needs g_absent → Suits o needs optional
+allowed (g_is t) optional (Some v) h = h
+allowed (g_is t) optional None h = h
+allowed g_absent optional (Some v) h = absurd h
+allowed g_absent optional None h = tt
 
 module _ (calls : Calls) (safe : CallsAreSafe calls) (runs : (g : Native) → NativeRuns calls g)
     (place : Place) (moment : ℤ) (within : IsTrue (in_64_bits moment)) where
@@ -111,6 +116,17 @@ module _ (calls : Calls) (safe : CallsAreSafe calls) (runs : (g : Native) → Na
       let type : u ≡ g_fun called.0 called.1 t = sym (ap (λ l. l.type) line) ∙ called.2 in
       let k = lined v called.0 called.1 t (subst (fits v) type fit) in
       unnamed_called ps w k.0 r t v args k.3 k.2 given (call_along u k.0 r t (k.1 ∙ sym type) (subst (λ l. IsCall r l t) line called))
+
+  by_itself : (p : Option Label) (needs : GroundRow) (optional : GroundField) (o : Option Val) (l : Label) → Suits o (needs l) g_absent → Suits o (with_input p g_absent needs l) optional
+  by_itself None needs optional o l h = allowed (needs l) optional o h
+  by_itself (Some x) needs optional o l h = allowed (needs l) optional o h
+
+  -- a function as a value, with values for all that its type takes
+  pub function_applied : (v : Val) (needs : GroundRow) (t : Ground) (args : Slots) → fits v (g_fun needs g_absent t) → ((l : Label) → Suits (look l args) (needs l) g_absent)
+      → IsSafe (λ y. fits y t) (applied_to calls place moment args v)
+  function_applied v needs t args fit suit =
+      let k = lined v needs g_absent t fit in
+      line_called v k.0 needs g_absent t args k.1 k.2 k.3 (λ l. by_itself k.0.pipe_label needs (k.0.optional l) (look l args) l (suit l))
 
   -- a built-in by its name
   truth_or_native : (x : Builtin) (w : Given) (L : Line) (v : Val) → IsBuilt x → IsLineAt (Obeys v) (Some x) w L → (g : Native) × (v ≡ native g) × (native_builtin g ≡ x)
@@ -198,16 +214,3 @@ module _ (test : Tests) (runs : (calls : Calls) (g : Native) → NativeRuns call
   nested_safe (suc n) ps lets e captured args setting env P t h met served =
       safe_later (λ v. fits v t) 1 (entered test (nested test n) setting ps lets e captured args)
       (entered_safe test (nested test n) setting met.0 (trees_fit (nested test n) (nested_safe n) setting met.0) ps lets e captured args env P t h met.1 served)
-
-  -- a typed expression, in values that meet its environment, isn't stuck under any limit, and its value fits the type
-  pub expression_safe : (setting : Setting) (env : Env) (slots : Slots) (e : Tree) (t : Ground) (limit : ℕ) → Meets (free e) setting env slots → HasType env e t
-      → IsSafe (λ v. fits v t) (meaning test setting e slots limit)
-  expression_safe setting env slots e t limit met h =
-      safe_cut (λ v. fits v t) limit (means test (nested test limit) setting e slots)
-      (trees_fit (nested test limit) (nested_safe limit) setting met.0 env slots e t met.1 h)
-
-  -- and its value fits every type that it has
-  pub every_type_safe : (setting : Setting) (env : Env) (slots : Slots) (e : Tree) (t : Ground) (limit : ℕ) → Meets (free e) setting env slots → HasType env e t
-      → IsSafe (λ v. (u : Ground) → HasType env e u → fits v u) (meaning test setting e slots limit)
-  every_type_safe setting env slots e t limit met h =
-      safe_every (HasType env e) (λ u v. fits v u) (meaning test setting e slots limit) (λ u k. expression_safe setting env slots e u limit met k) t h

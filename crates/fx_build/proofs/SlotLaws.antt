@@ -16,7 +16,7 @@ same_itself x = nat_list_eq_equiv.refl x
 
 -- ---- where a label stands
 
-or_none : (o : Option Val) → o ≡ or_else o None
+pub or_none : (o : Option Val) → o ≡ or_else o None
 or_none None = refl
 or_none (Some v) = refl
 

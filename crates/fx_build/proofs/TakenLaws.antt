@@ -113,7 +113,7 @@ required_unworded : (x : Builtin) → list_all (λ l. is_none (form_of x l)) (re
 required_unworded b.From = refl
 required_unworded _ = refl
 
-listed_passes : (test : Label → Bool) (xs : List Label) (l : Label) → list_all test xs ≡ true → listed l xs ≡ true → test l ≡ true
+pub listed_passes : (test : Label → Bool) (xs : List Label) (l : Label) → list_all test xs ≡ true → listed l xs ≡ true → test l ≡ true
 listed_passes test [] l h e = absurd (false≢true e)
 listed_passes test (x ∷ xs) l h e =
     let parts = and_parts (test x) (list_all test xs) h in
@@ -121,7 +121,7 @@ listed_passes test (x ∷ xs) l h e =
     (λ same. ap test (equal_text l x (sym same)) ∙ parts.0)
     (λ other. listed_passes test xs l parts.1 (sym (passed (same_text l x) true (listed l xs) other) ∙ e))
 
-no_form : (o : Option Form) → is_none o ≡ true → o ≡ None
+pub no_form : (o : Option Form) → is_none o ≡ true → o ≡ None
 no_form None h = refl
 no_form (Some f) h = absurd (false≢true h)
 

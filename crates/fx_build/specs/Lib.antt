@@ -1,5 +1,9 @@
 pub mod Bound
 pub mod Fit
+pub mod Rows
 pub mod Run
 pub mod Safe
 pub mod Said
+pub mod Sound
+pub mod Sources
+pub mod Streams

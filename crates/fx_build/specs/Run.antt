@@ -1,4 +1,4 @@
--- The run of a script: what it shows, one after another, and then its end.
+-- The run of a script: what its statements give and what it shows, one after another, and then its end.
 use Rattle.std.specs.Prelude.{ℕ, ◌-◌, List, [], ◌∷◌, Option, None, Some, codes, if◌then◌else◌}
 use Rattle.fx_base.specs.Text.{same_text}
 use Rattle.fx_base.specs.declared.fault.FaultKind.TheVariants.{DuplicateYield, NullArgument}
@@ -18,26 +18,33 @@ use Rattle.fx_meaning.specs.Native.{path_of}
 use Rattle.fx_meaning.specs.Value.{Val, in_package, stream, shown, Slots, no_slots, push, Stream}
 use Rattle.fx_infer.specs.Script.{import_name}
 
--- a stream that is shown, under its name
+-- a stream that is shown, under its name, with its tables
 pub record Yield (T : Type 0) : Type 0 where
   pub name : Label
+  pub call : Stream
   pub tables : T
 
--- the end is a value where all statements were evaluated, with the ticks of all
+-- the values are those of the assignments and expressions, as far as they were evaluated. The end is a value where all
+-- statements were, with the ticks of all
 pub record Run (T : Type 0) : Type 0 where
+  pub values : List Val
   pub yields : List (Yield T)
   pub end : End (Unit {0})
 
 abbrev pub ended : {T : Type 0} → End (Unit {0}) → Run T
-ended end = record { yields = []; end = end }
+ended end = record { values = []; yields = []; end = end }
 
 -- ticks before the run's own
 abbrev pub spent : {T : Type 0} → ℕ → Run T → Run T
-spent ticks run = record { yields = run.yields; end = later ticks run.end }
+spent ticks run = record { values = run.values; yields = run.yields; end = later ticks run.end }
 
 -- a yield before the run's own
 abbrev pub shows : {T : Type 0} → Yield T → Run T → Run T
-shows first run = record { yields = first ∷ run.yields; end = run.end }
+shows first run = record { values = run.values; yields = first ∷ run.yields; end = run.end }
+
+-- a value before the run's own
+abbrev pub gives : {T : Type 0} → Val → Run T → Run T
+gives v run = record { values = v ∷ run.values; yields = run.yields; end = run.end }
 
 -- what follows an end, with what that leaves of the limit
 abbrev pub go_on : {A T : Type 0} → ℕ → End A → (A → ℕ → Run T) → Run T
@@ -61,7 +68,7 @@ module _ {T : Type 0} (test : Tests) (setting : Setting) (tables : Stream → �
   abbrev pub yielded : Place → Label → Stream → List Label → ℕ → (List Label → ℕ → Run T) → Run T
   yielded place name call earlier limit next =
       if listed name earlier then ended (Faults (fault_at place DuplicateYield) 0)
-      else go_on limit (cut limit (tables call limit)) (λ made left. shows (record { name = name; tables = made }) (next (name ∷ earlier) left))
+      else go_on limit (cut limit (tables call limit)) (λ made left. shows (record { name = name; call = call; tables = made }) (next (name ∷ earlier) left))
 
   -- null is no name: a fault of the call of `yield`, after those of its input
   abbrev pub yielded_under : Place → Scalar → Place → Stream → List Label → ℕ → (List Label → ℕ → Run T) → Run T
@@ -82,9 +89,9 @@ module _ {T : Type 0} (test : Tests) (setting : Setting) (tables : Stream → �
   -- a statement, and what follows it in the environment that it leaves. An `option task` isn't evaluated
   abbrev pub statement_run : Place → StatementForm → Slots → List Label → ℕ → (Slots → List Label → ℕ → Run T) → Run T
   statement_run place (import alias path) env earlier limit next = imported_as (import_name alias path) (package_at path) env earlier limit next
-  statement_run place (assign x e) env earlier limit next = go_on limit (meaning test setting e env limit) (λ v left. next (push env x v) earlier left)
+  statement_run place (assign x e) env earlier limit next = go_on limit (meaning test setting e env limit) (λ v left. gives v (next (push env x v) earlier left))
   statement_run place (task e) env earlier limit next = next env earlier limit
-  statement_run place (show e) env earlier limit next = go_on limit (meaning test setting e env limit) (λ v left. shown_value place v earlier left (next env))
+  statement_run place (show e) env earlier limit next = go_on limit (meaning test setting e env limit) (λ v left. gives v (shown_value place v earlier left (next env)))
 
   abbrev pub statements_run : List StatementTree → Slots → List Label → ℕ → Run T
   statements_run [] env earlier limit = ended (Gives tt 0)

@@ -1,5 +1,5 @@
 -- Scripts that have no typing, each with the reason that the rules give.
-use Rattle.std.proofs.Common.{◌≡◌, inl, inr, refl, sym, ap, subst, ◌∙◌, ◌≤◌, Bool, true, false, ◌||◌, [], ◌∷◌, None, arith}
+use Rattle.std.proofs.Common.{◌≡◌, inl, inr, refl, sym, ap, subst, ◌∙◌, ◌≤◌, Bool, true, false, ◌||◌, List, [], ◌∷◌, None, arith}
 use Rattle.std.specs.Prelude.{codes, pos, if◌then◌else◌, FitsSigned}
 use Rattle.std.specs.Int.{w64}
 use Rattle.std.proofs.lemmas.Int.{fits_signed_from_abs}
@@ -15,6 +15,7 @@ use Rattle.fx_types.specs.Kinds.{IsAmong}
 use Rattle.fx_value.specs.declared.scalar.Kind.TheVariants as kind
 use Rattle.fx_ast.specs.declared.expr.Infix.TheVariants as between
 use Rattle.fx_ast.specs.Tree.{Tree, tree, Shape, int, span, text, name, array, rec, fun, call, chain, no_trees, more_trees, no_parts, piece, no_props, more_props, Params, no_params, more_params, required, by_value, no_links, more_links, StatementForm, import, assign, StatementTree}
+use Rattle.fx_schemes.specs.Line.{value}
 use Rattle.fx_schemes.specs.Names.{stream_of, value_of, streams, values}
 use Rattle.fx_infer.specs.Arguments.{Takes}
 use Rattle.fx_infer.specs.Ask.{Ask, type_is, line_is, Scope}
@@ -204,7 +205,10 @@ module _ (t : Term) (formed : IsWellFormed (made t)) (is : IsType (made t)) (sma
 abbrev plain : Tree
 plain = at (text (piece (codes "s") no_parts))
 
-pub another_type_at_each_use : HasTyping (statement (assign f identity) ∷ statement (assign a (a_call f x one)) ∷ statement (assign b (a_call f x plain)) ∷ [])
+abbrev pub identity_script : List StatementTree
+identity_script = statement (assign f identity) ∷ statement (assign a (a_call f x one)) ∷ statement (assign b (a_call f x plain)) ∷ []
+
+pub another_type_at_each_use : HasTyping identity_script
 another_type_at_each_use = (
   (refl, (_, identity_type t_int tt int_type (omega arith) natives)),
   (
@@ -221,3 +225,108 @@ another_type_at_each_use = (
 
     fits : FitsSigned w64 (pos 1)
     fits = fits_signed_from_abs w64 (pos 1) (omega arith)
+
+-- `f = (g) => g(x: 1)`, `b = f(g: (x, y=2) => x + y)`: as an argument a literal is a value, without its optional labels
+
+abbrev g : Label
+g = codes "g"
+
+abbrev of_int : Term
+of_int = from x t_int t_int
+
+abbrev of_g : Params
+of_g = more_params g required no_params
+
+-- (g) => g(x: 1)
+abbrev caller : Tree
+caller = a_function of_g (a_call g x one)
+
+-- (x, y=2) => x + y
+abbrev sum : Tree
+sum =
+    a_function (more_params x required (more_params y (by_value (at (int (pos 2)))) no_params))
+    (at (chain (at (name x)) (more_links nowhere between.Add (at (name y)) no_links)))
+
+int_type : IsType g_int
+int_type = (tt, omega arith)
+
+one_fits : FitsSigned w64 (pos 1)
+one_fits = fits_signed_from_abs w64 (pos 1) (omega arith)
+
+two_fits : FitsSigned w64 (pos 2)
+two_fits = fits_signed_from_abs w64 (pos 2) (omega arith)
+
+of_int_type : IsType (made of_int)
+of_int_type = subst IsType (function_of_one x t_int t_int) (is_function x t_int t_int tt tt (omega arith))
+
+caller_type : IsType (type_of of_g (λ l. made of_int) g_int)
+caller_type = is_function g of_int t_int of_int_type.0 tt (omega arith)
+
+one_is : (S : Scope) → has one S (type_is g_int)
+one_is S = (int_type, (refl, one_fits))
+
+call_of_g : (S : Scope) → has (a_call g x one) (with_params of_g (λ l. made of_int) S) (type_is g_int)
+call_of_g S = (
+  int_type,
+  (
+    None,
+    [],
+    value (made of_int),
+    (λ l. if same_text l x then g_is g_int else g_absent),
+    refl,
+    refl,
+    (made of_int, refl, tt, of_int_type, refl),
+    ((g_int, refl, one_is (with_params of_g (λ l. made of_int) S)), tt),
+    (λ l off. off_label (same_text l x) off),
+    (_, g_absent, refl, λ l. takes_itself (if same_text l x then g_is g_int else g_absent) _),
+  ),
+)
+  where
+    off_label : (c : Bool) → (if c then true else false) ≡ false → (if c then g_is g_int else g_absent) ≡ g_absent
+    off_label true e = absurd (differ_booleans e)
+    off_label false e = refl
+
+caller_parts : (S : Scope)
+    → AreDeclared of_g no_props × has_params of_g S (λ l. made of_int) × has_lets no_props (with_params of_g (λ l. made of_int) S) (λ T. has (a_call g x one) T (type_is g_int))
+caller_parts S = ((refl, refl, omega arith), (of_int_type, tt, tt), call_of_g S)
+
+sum_is : (S : Scope) → has sum S (type_is (made of_int))
+sum_is S = (
+  of_int_type,
+  (
+    (λ l. g_int),
+    g_int,
+    function_of_one x t_int t_int,
+    (
+      (refl, refl, omega arith),
+      (int_type, tt, (int_type, (int_type, (refl, two_fits)), tt)),
+      (int_type, (g_int, (int_type, (int_type, refl)), (g_int, g_int, (int_type, (int_type, refl)), (inl refl, refl, refl), refl))),
+    ),
+  ),
+)
+
+call_of_f : (S : Scope) → ((q : Ask) → has caller natives q → S f q) → has (a_call f g sum) S (type_is g_int)
+call_of_f S bound = (
+  int_type,
+  (
+    None,
+    [],
+    line_of of_g (λ l. made of_int) g_int,
+    (λ l. field_if (same_text l g || false) (made of_int)),
+    refl,
+    refl,
+    bound _ ((λ l. made of_int), g_int, refl, caller_type, caller_parts natives),
+    ((made of_int, refl, sum_is S), tt),
+    (λ l off. absent_off (same_text l g) (made of_int) off),
+    ((λ l. field_if (same_text l g || false) (made of_int)), g_absent, refl, λ l. takes_itself (field_if (same_text l g || false) (made of_int)) _),
+  ),
+)
+
+abbrev pub caller_script : List StatementTree
+caller_script = statement (assign f caller) ∷ statement (assign b (a_call f g sum)) ∷ []
+
+pub a_literal_is_a_value : HasTyping caller_script
+a_literal_is_a_value = (
+  (refl, (_, (caller_type, ((λ l. made of_int), g_int, refl, caller_parts natives)))),
+  ((refl, (g_int, call_of_f (scope (assigned f caller ∷ [])) (λ q h. h))), tt),
+)

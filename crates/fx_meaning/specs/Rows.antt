@@ -10,8 +10,9 @@ use Rattle.fx_value.specs.declared.answer.Answer.{Answer}
 use Rattle.fx_value.specs.declared.answer.Answer.TheVariants.{Cell, Line}
 use Rattle.fx_value.specs.declared.scalar.Scalar.{Scalar}
 use Rattle.fx_meaning.specs.Ends.{◌>>=◌, pure}
+use Rattle.fx_meaning.specs.Forms.{cell_in}
 use Rattle.fx_meaning.specs.Meaning.{Calls, Tests, applied_to, nested}
-use Rattle.fx_meaning.specs.Value.{Label, Val, cell, rec, closure, Slots, no_slots, more_slots}
+use Rattle.fx_meaning.specs.Value.{Label, Val, cell, rec, closure, Slots, no_slots, more_slots, look, is_there}
 
 abbrev pub Row : Type 0
 Row = FinMap text_cmp Scalar
@@ -40,11 +41,10 @@ arguments (x ∷ []) (row ∷ []) = Some (more_slots x (record_of row) no_slots)
 arguments (x ∷ y ∷ []) (first ∷ second ∷ []) = Some (if is_gt (text_cmp x y) then pair_of y x first second else pair_of x y first second)
 arguments _ _ = None
 
--- a record of scalars as a row, behind what stands already; the last value of a label counts
+-- a record of scalars as a row, behind what stands already; of several values of a label only the last is looked at
 abbrev pub row_from : Row → Slots → End Row
 row_from row no_slots = pure row
-row_from row (more_slots x (cell a) fields) = row_from (insert row x a) fields
-row_from row (more_slots x _ fields) = Stuck
+row_from row (more_slots x v fields) = if is_there (look x fields) then row_from row fields else (cell_in v >>= (λ a. row_from (insert row x a) fields))
 
 -- a scalar, or a record of scalars
 abbrev pub answer_of : Val → End Answer
