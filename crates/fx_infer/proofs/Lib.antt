@@ -1,5 +1,6 @@
 pub mod AskingLaws
 pub mod CallLaws
+pub mod EntryLaws
 pub mod FreshLaws
 pub mod InfersLaws
 pub mod ListLaws
@@ -8,5 +9,6 @@ pub mod ScriptLaws
 pub mod SeenLaws
 pub mod TypingLaws
 pub mod UseLaws
+pub mod UsingLaws
 pub mod WordLaws
 pub mod Worked

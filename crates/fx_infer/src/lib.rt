@@ -2,6 +2,8 @@
 #![tactic(auto)]
 
 mod ask;
+mod lines;
 mod operators;
 mod rules;
 mod terms;
+mod uses;
