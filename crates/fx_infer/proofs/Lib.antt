@@ -1,5 +1,8 @@
 pub mod AskingLaws
+pub mod ByLineLaws
 pub mod CallLaws
+pub mod CalledLaws
+pub mod DivideLaws
 pub mod EntryLaws
 pub mod FreshLaws
 pub mod InfersLaws

@@ -2,6 +2,7 @@
 #![tactic(auto)]
 
 mod ask;
+mod calls;
 mod lines;
 mod operators;
 mod rules;
