@@ -2,6 +2,7 @@ pub mod EndLaws
 pub mod KindLaws
 pub mod NameLaws
 pub mod OpenLaws
+pub mod PlainLaws
 pub mod ReadLaws
 pub mod SameLaws
 pub mod SolvedLaws

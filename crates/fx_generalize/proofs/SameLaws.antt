@@ -1,5 +1,5 @@
 -- Terms that are the same, part by part.
-use Rattle.std.proofs.Common.{◌≡◌, refl, sym, ap, ◌∙◌, ℕ, ◌+◌, ◌≤◌, ◌<◌, List, [], ◌∷◌, ◌++◌, map, take, length, get_or, option_map, arith}
+use Rattle.std.proofs.Common.{◌≡◌, sym, ap, ◌∙◌, ℕ, ◌+◌, ◌≤◌, ◌<◌, List, [], ◌∷◌, ◌++◌, map, take, length, get_or, option_map}
 use Rattle.std.proofs.lemmas.List.{take_more, map-append}
 use Rattle.fx_types.proofs.Lists.{take_all}
 use Rattle.fx_types.proofs.ShapeLaws.{entry_is, labelled_is, row_is, function_is}
@@ -8,8 +8,7 @@ use Rattle.fx_types.specs.declared.term.FunTy.{FunTy}
 use Rattle.fx_types.specs.declared.term.LabelField.{LabelField}
 use Rattle.fx_types.specs.declared.term.LabelTy.{LabelTy}
 use Rattle.fx_types.specs.declared.term.RowTy.{RowTy}
-use Rattle.fx_types.specs.Shape.{OfField, OfLabel, term, field_term, rest_term, fun_term, entry_term, label_term, row_term, labels_of, fields_of, pipe_of}
-use Rattle.fx_types.specs.Term.{Function, Row}
+use Rattle.fx_types.specs.Shape.{term, field_term, rest_term, fun_term, entry_term, label_term, row_term, labels_of, fields_of, pipe_of}
 
 pub same_step : {A B : Type 0} (f : A → B) (xs ys : List A) (i : ℕ) (x y : A) → i < length xs → i < length ys → x ≡ get_or xs i x → y ≡ get_or ys i y → f x ≡ f y
     → map f (take i xs) ≡ map f (take i ys) → map f (take (i + 1) xs) ≡ map f (take (i + 1) ys)

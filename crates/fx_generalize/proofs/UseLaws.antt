@@ -17,16 +17,20 @@ use Rattle.fx_types.proofs.RaisedLaws.{ground_raised, numbers_raised, spliced_ag
 use Rattle.fx_unify.specs.declared.bindings.Bindings.{Bindings}
 use Rattle.fx_unify.specs.Judge.{AreTypes}
 use Rattle.fx_unify.specs.Solutions.{Solves, next_of}
+use Rattle.fx_unify.specs.Work.{Within}
 use Rattle.fx_unify.proofs.AskLaws.{unrestricted}
+use Rattle.fx_unify.proofs.WithinLaws.{spliced_within}
 use Rattle.fx_generalize.specs.declared.solved.Solved.{Solved}
 use Rattle.fx_generalize.specs.declared.solved.VarBound.{VarBound}
 use Rattle.fx_generalize.specs.Solved.{KeepsKinds, Suits, HasInstance, numbers_bounds, numbers_terms}
 use Rattle.fx_generalize.specs.Used.{Used}
+use Rattle.fx_generalize.proofs.PlainLaws.{plain_solution}
 
 -- what is asked of the numbers from m on leaves the old solutions as they are
 pub law_of_use : (D : Ground → Type 0) (Suited : Solution → Type 0) (old new : Bindings) (m : ℕ) (t u : Term) → next_of old ≤ m
-    → ((g : Ground) → D g ↔ ((q : Solution) × Suited q × (ground q t ≡ g))) → ((s : Solution) → Solves s new ↔ (Solves s old × Suited (from m s))) → u ≡ raised m t → Used D old m new u
-law_of_use D Suited old new m t u le instances asked is = record { keeps = λ s h. ((asked s).0 h).0; sound = sound; complete = complete }
+    → ((g : Ground) → D g ↔ ((q : Solution) × Suited q × (ground q t ≡ g))) → ((s : Solution) → Solves s new ↔ (Solves s old × Suited (from m s))) → u ≡ raised m t
+    → ((q : Solution) → Suited q → IsType (ground q t) → (p : Solution) × Within p × Suited p × (ground p t ≡ ground q t)) → Used D old m new u
+law_of_use D Suited old new m t u le instances asked is plain = record { keeps = λ s h. ((asked s).0 h).0; sound = sound; complete = complete; within = within }
   where
     becomes : (s : Solution) → ground s u ≡ ground (from m s) t
     becomes s = ap (ground s) is ∙ ground_raised m s t
@@ -34,16 +38,26 @@ law_of_use D Suited old new m t u le instances asked is = record { keeps = λ s 
     sound : (s : Solution) → Solves s new → D (ground s u)
     sound s h = (instances (ground s u)).1 (from m s, ((asked s).0 h).1, sym (becomes s))
 
+    made : (s w : Solution) → Solves s old → Suited w → Agree m s (spliced m s w) × Solves (spliced m s w) new × (ground (spliced m s w) u ≡ ground w t)
+    made s w h suits =
+        let agrees : Agree m s (spliced m s w) = spliced_agrees m s w in
+        let still : Solves (spliced m s w) old = unrestricted old s (spliced m s w) (agree_less m (next_of old) s (spliced m s w) agrees le) h in (
+          agrees,
+          (asked (spliced m s w)).1 (still, subst Suited (sym (from_spliced m s w)) suits),
+          becomes (spliced m s w) ∙ ap (λ q. ground q t) (from_spliced m s w),
+        )
+
     complete : (s : Solution) → Solves s old → (g : Ground) → D g → (q : Solution) × Agree m s q × Solves q new × (ground q u ≡ g)
     complete s h g d =
         let w : (q : Solution) × Suited q × (ground q t ≡ g) = (instances g).0 d in
-        let agrees : Agree m s (spliced m s w.0) = spliced_agrees m s w.0 in
-        let still : Solves (spliced m s w.0) old = unrestricted old s (spliced m s w.0) (agree_less m (next_of old) s (spliced m s w.0) agrees le) h in (
-          spliced m s w.0,
-          agrees,
-          (asked (spliced m s w.0)).1 (still, subst Suited (sym (from_spliced m s w.0)) w.1),
-          becomes (spliced m s w.0) ∙ ap (λ q. ground q t) (from_spliced m s w.0) ∙ w.2,
-        )
+        let f : Agree m s (spliced m s w.0) × Solves (spliced m s w.0) new × (ground (spliced m s w.0) u ≡ ground w.0 t) = made s w.0 h w.1 in (spliced m s w.0, f.0, f.1, f.2 ∙ w.2)
+
+    within : (s : Solution) → Solves s old → Within s → (g : Ground) → D g → IsType g → (q : Solution) × Agree m s q × Solves q new × Within q × (ground q u ≡ g)
+    within s h small g d type =
+        let w : (q : Solution) × Suited q × (ground q t ≡ g) = (instances g).0 d in
+        let p : (p : Solution) × Within p × Suited p × (ground p t ≡ ground w.0 t) = plain w.0 w.1 (subst IsType (sym w.2) type) in
+        let f : Agree m s (spliced m s p.0) × Solves (spliced m s p.0) new × (ground (spliced m s p.0) u ≡ ground p.0 t) = made s p.0 h p.2 in
+        (spliced m s p.0, f.0, f.1, spliced_within m s p.0 small p.1, f.2 ∙ p.3 ∙ w.2)
 
 -- bounds, one after another
 
@@ -112,7 +126,7 @@ all_types m old asked ts i le h = subst (λ d. (s : Solution) → Solves s asked
 pub all_asked : (v : Solved) (old mid new : Bindings) (m : ℕ) (bs : List VarBound) (ts : List Ty) (u : Term) → next_of old ≤ m → bs ≡ v.bounds → ts ≡ v.also
     → ((s : Solution) → Solves s mid ↔ (Solves s old × KeepsKinds (from m s) bs)) → ((s : Solution) → Solves s new ↔ (Solves s mid × AreTypes (from m s) ts)) → u ≡ raised m (term v.ty)
     → Used (HasInstance v) old m new u
-all_asked v old mid new m bs ts u le bounds types one two is = law_of_use (HasInstance v) (Suits v) old new m (term v.ty) u le (λ g. (λ h. h, λ h. h)) asked is
+all_asked v old mid new m bs ts u le bounds types one two is = law_of_use (HasInstance v) (Suits v) old new m (term v.ty) u le (λ g. (λ h. h, λ h. h)) asked is (plain_solution v)
   where
     asked : (s : Solution) → Solves s new ↔ (Solves s old × Suits v (from m s))
     asked s = (

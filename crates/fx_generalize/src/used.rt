@@ -33,6 +33,7 @@ impl Solved {
         ensures used { IfOk result (λ u. Used (HasInstance self.now) bindings first u.bindings (term u.ty)) }
         ensures numbers { IfOk result (λ u. numbers (term u.ty) ≤ first + self.now.vars) }
         ensures next { IfOk result (λ u. next_of u.bindings ≤ first + self.now.vars) }
+        ensures more { IfOk result (λ u. next_of bindings ≤ next_of u.bindings) }
     {
         let ty = self.ty.raised(alloc, first)?;
         let bounded = ask_bounds(bindings, self.bounds.as_slice(), first)?;
@@ -46,6 +47,7 @@ fn ask_bounds(bindings: Bindings, bounds: &[VarBound], first: u32) -> Result<Bin
     requires { numbers_bounds bounds.now + first ≤ 2 ^ 32 }
     ensures ok { IfOk result (λ r. (s : Solution) → Solves s r ↔ (Solves s bindings × KeepsKinds (from first s) bounds.now)) }
     ensures next { IfOk result (λ r. next_of r ≤ max (next_of bindings) (numbers_bounds bounds.now + first)) }
+    ensures more { IfOk result (λ r. next_of bindings ≤ next_of r) }
 {
     let mut asked = bindings;
     for bound in bounds {
@@ -64,6 +66,7 @@ fn ask_types(
     requires { numbers_terms types.now + first ≤ 2 ^ 32 }
     ensures ok { IfOk result (λ r. (s : Solution) → Solves s r ↔ (Solves s bindings × AreTypes (from first s) types.now)) }
     ensures next { IfOk result (λ r. next_of r ≤ max (next_of bindings) (numbers_terms types.now + first)) }
+    ensures more { IfOk result (λ r. next_of bindings ≤ next_of r) }
 {
     let mut asked = bindings;
     for ty in types {

@@ -1,9 +1,9 @@
 -- What is asked of bindings, as inference.
-use Rattle.std.proofs.Common.{◌≡◌, ◌↔◌, inl, inr, refl, sym, ap, subst, ◌∙◌, ℕ, ◌≤◌, ◌+◌, max, Bool, false, List, [], ◌∷◌, Result, Ok, Err, IfOk, arith}
+use Rattle.std.proofs.Common.{◌≡◌, ◌↔◌, refl, sym, ap, subst, ◌∙◌, ℕ, ◌≤◌, ◌+◌, max, Bool, false, List, Result, Ok, Err, IfOk, arith}
 use Rattle.fx_types.specs.Agree.{Agree}
 use Rattle.fx_types.specs.Ground.{Ground, g_bool, g_text, g_pattern}
 use Rattle.fx_types.specs.Instance.{Solution, ground}
-use Rattle.fx_types.specs.Kinds.{of_kind, IsAmong}
+use Rattle.fx_types.specs.Kinds.{IsAmong}
 use Rattle.fx_types.specs.Numbers.{numbers}
 use Rattle.fx_types.specs.Shape.{term}
 use Rattle.fx_types.specs.Size.{IsType}
@@ -12,28 +12,15 @@ use Rattle.fx_types.specs.declared.term.Ty.{Ty}
 use Rattle.fx_types.specs.declared.term.Ty.TheVariants as ty
 use Rattle.fx_types.proofs.ShapeLaws.{term_bool, term_text, term_pattern, term_variable}
 use Rattle.fx_value.specs.declared.scalar.Kind.{Kind}
-use Rattle.fx_value.specs.declared.scalar.Kind.TheVariants as kind
 use Rattle.fx_unify.specs.declared.bindings.Bindings.{Bindings}
 use Rattle.fx_unify.specs.Solutions.{Solves, next_of}
 use Rattle.fx_unify.specs.Work.{Within}
 use Rattle.fx_unify.proofs.AskLaws.{unrestricted}
+use Rattle.fx_unify.proofs.WithinLaws.{scalar_type}
 use Rattle.fx_infer.specs.Infers.{Infers, Asks, IsBelow}
 use Rattle.fx_infer.specs.Operators.{Keeps, Tells, Matches}
 use Rattle.fx_infer.proofs.FreshLaws.{with_type, there, type_agrees, type_within, fresh_type}
 use Rattle.fx_infer.proofs.InfersLaws.{asked, both, seen_as}
-
--- a scalar is a type
-
-kind_type : (k : Kind) → IsType (of_kind k)
-kind_type kind.Bool = (tt, omega arith)
-kind_type kind.Int = (tt, omega arith)
-kind_type kind.Text = (tt, omega arith)
-kind_type kind.Time = (tt, omega arith)
-
-pub scalar_type : (ks : List Kind) (span : Bool) (g : Ground) → IsAmong ks span g → IsType g
-scalar_type [] span g h = subst IsType (sym h.1) (tt, omega arith)
-scalar_type (k ∷ ks) span g (inl e) = subst IsType (sym e) (kind_type k)
-scalar_type (k ∷ ks) span g (inr h) = scalar_type ks span g h
 
 -- a term that is one of the kinds: a new variable is that term, and is bound to the kinds
 pub among_asked : (C : Ground → Type 0) (old mid new : Bindings) (n : ℕ) (t : Term) → ((g : Ground) → C g → IsType g) → n ≡ next_of old → next_of old ≤ next_of new → IsBelow (next_of old) t

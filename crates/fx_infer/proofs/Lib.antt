@@ -6,10 +6,10 @@ pub mod DivideLaws
 pub mod EntryLaws
 pub mod FreshLaws
 pub mod InfersLaws
+pub mod KeptLaws
 pub mod ListLaws
 pub mod RuleLaws
 pub mod ScriptLaws
-pub mod SeenLaws
 pub mod TypingLaws
 pub mod UseLaws
 pub mod UsingLaws

@@ -1,39 +1,29 @@
 -- The use of a built-in's scheme: its variables get numbers that nothing else has.
-use Rattle.std.proofs.Common.{◌≡◌, ◌↔◌, inl, refl, sym, ap, subst, ◌∙◌, ℕ, zero, suc, ◌≤◌, Bool, true, false, ◌||◌, ◌==◌, eq-eqb, eqb-true, List, [], ◌∷◌}
+use Rattle.std.proofs.Common.{◌≡◌, ◌↔◌, inl, refl, sym, ap, subst, ◌∙◌, ℕ, ◌≤◌, Bool, true, false, ◌||◌, ◌==◌, eq-eqb, eqb-true, List, [], ◌∷◌}
 use mathlib.Core.Bool.{true≢false}
 use Rattle.fx_types.specs.Agree.{Agree}
 use Rattle.fx_types.specs.Ground.{Ground, GroundField, g_absent, g_is}
 use Rattle.fx_types.specs.Instance.{Solution, ground, ground_labels}
 use Rattle.fx_types.specs.Kinds.{IsAmong}
-use Rattle.fx_types.specs.Raised.{from, splice, spliced}
+use Rattle.fx_types.specs.Raised.{from, spliced}
 use Rattle.fx_types.specs.Size.{IsType}
 use Rattle.fx_types.specs.Term.{Label}
 use Rattle.fx_types.proofs.PartLaws.{IsTypeField}
 use Rattle.fx_types.proofs.RaisedLaws.{spliced_agrees, from_spliced}
 use Rattle.fx_unify.specs.declared.bindings.Bindings.{Bindings}
 use Rattle.fx_unify.specs.Part.{Variable, type_node, field_node, slot_node, as_part, value}
+use Rattle.fx_unify.specs.Seen.{sees, sees_labels, kept_at}
 use Rattle.fx_unify.specs.Solutions.{Solves, next_of}
-use Rattle.fx_unify.specs.Work.{Within, IsRow}
+use Rattle.fx_unify.specs.Work.{Within}
 use Rattle.fx_unify.proofs.AskLaws.{unrestricted}
+use Rattle.fx_unify.proofs.SeenLaws.{or_left, or_right, split, same_term, same_labels, seen_part, seen_labels, Rest, rest_or, rest_term, rest_labels, AllSeen, kept_within, kept_value}
+use Rattle.fx_unify.proofs.WithinLaws.{spliced_within, scalar_type}
 use Rattle.fx_schemes.specs.declared.builtin_type.KindBound as bounds
 use Rattle.fx_schemes.specs.Line.{Line}
 use Rattle.fx_schemes.specs.Scheme.{Scheme, Keeps, instance}
 use Rattle.fx_infer.specs.Arguments.{IsTypeOrAbsent}
 use Rattle.fx_infer.specs.Infers.{Infers}
-use Rattle.fx_infer.specs.Seen.{sees, sees_labels, kept_at}
 use Rattle.fx_infer.specs.Uses.{IsUse}
-use Rattle.fx_infer.proofs.AskingLaws.{scalar_type}
-use Rattle.fx_infer.proofs.SeenLaws.{or_left, or_right, split, same_term, same_labels, seen_part, seen_labels, Rest, rest_or, rest_term, rest_labels, AllSeen, kept_within, kept_value}
-
--- solutions put together are within the limit where both are
-
-all_splice : {A : Type 0} (P : A → Type 0) (m : ℕ) (f g : ℕ → A) → ((n : ℕ) → P (f n)) → ((n : ℕ) → P (g n)) → (n : ℕ) → P (splice m f g n)
-all_splice P zero f g ps qs n = qs n
-all_splice P (suc m) f g ps qs zero = ps zero
-all_splice P (suc m) f g ps qs (suc n) = all_splice P m (λ i. f (suc i)) g (λ i. ps (suc i)) qs n
-
-spliced_within : (m : ℕ) (s q : Solution) → Within s → Within q → Within (spliced m s q)
-spliced_within m s q a b = (all_splice IsType m s.type_of q.type_of a.0 b.0, all_splice IsTypeField m s.field_of q.field_of a.1 b.1, all_splice IsRow m s.row_of q.row_of a.2 b.2)
 
 -- the variables that a scheme shows, and those with a bound
 

@@ -10,7 +10,6 @@ pub mod Operators
 pub mod Parameters
 pub mod Rules
 pub mod Script
-pub mod Seen
 pub mod Typing
 pub mod Uses
 pub mod Words

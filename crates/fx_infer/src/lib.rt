@@ -3,6 +3,7 @@
 
 mod ask;
 mod calls;
+mod kept;
 mod lines;
 mod operators;
 mod rules;

@@ -22,7 +22,9 @@ pub mod PlainRowLaws
 pub mod PlainestLaws
 pub mod RowLaws
 pub mod RunLaws
+pub mod SeenLaws
 pub mod SolvingLaws
 pub mod StoreLaws
 pub mod SumLaws
 pub mod WeighLaws
+pub mod WithinLaws

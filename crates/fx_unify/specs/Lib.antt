@@ -11,6 +11,7 @@ pub mod Pick
 pub mod Plainest
 pub mod PutIn
 pub mod Rows
+pub mod Seen
 pub mod Smaller
 pub mod Solutions
 pub mod Sorts

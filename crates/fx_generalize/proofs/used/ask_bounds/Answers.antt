@@ -17,6 +17,8 @@ loop-bound-preserved c = (
   (let le : c.bound-item.result.var + 1 ≤ numbers_bounds c.args.bounds.now = bound_number c.args.bounds.now c.loop-bound.bound-index c.bound-item.result c.loop-bound-test.true c.bound-item.is in
       let next : next_of c.in_ok-asked.asked ≡ max (next_of c.loop-bound.asked) (c.bound-item.result.var + c.args.first + 1) = c.in_ok-asked.ensures.next in
       let before : next_of c.loop-bound.asked ≤ max (next_of c.args.bindings) (numbers_bounds c.args.bounds.now + c.args.first) = c.loop-bound.invariant.1 in omega arith),
+  (let next : next_of c.in_ok-asked.asked ≡ max (next_of c.loop-bound.asked) (c.bound-item.result.var + c.args.first + 1) = c.in_ok-asked.ensures.next in
+      let before : next_of c.args.bindings ≤ next_of c.loop-bound.asked = c.loop-bound.invariant.2 in omega arith),
 )
 
 pub returns-clause-ok : goal.returns-clause-ok

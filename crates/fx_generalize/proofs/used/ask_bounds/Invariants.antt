@@ -9,3 +9,4 @@ abbrev pub invariant-loop-bound : goal.invariant-loop-bound
 invariant-loop-bound l =
     ((s : Solution) → Solves s l.asked ↔ (Solves s l.fn.bindings × KeepsKinds (from l.first s) (take l.bound-index l.bounds)))
     × (next_of l.asked ≤ max (next_of l.fn.bindings) (numbers_bounds l.bounds + l.first))
+    × (next_of l.fn.bindings ≤ next_of l.asked)

@@ -20,6 +20,8 @@ loop-ty-preserved c = (
       let small : numbers (term c.in_ok-raised.raised) ≤ c.args.first + numbers_terms c.args.types.now = raised_number c.args.first (numbers_terms c.args.types.now) (term c.ty-item.result) (term c.in_ok-raised.raised) c.in_ok-raised.ensures le in
       let next : next_of c.in_ok-asked.asked ≡ max (next_of c.loop-ty.asked) (numbers (term c.in_ok-raised.raised)) = c.in_ok-asked.ensures.next in
       let before : next_of c.loop-ty.asked ≤ max (next_of c.args.bindings) (numbers_terms c.args.types.now + c.args.first) = c.loop-ty.invariant.1 in omega arith),
+  (let next : next_of c.in_ok-asked.asked ≡ max (next_of c.loop-ty.asked) (numbers (term c.in_ok-raised.raised)) = c.in_ok-asked.ensures.next in
+      let before : next_of c.args.bindings ≤ next_of c.loop-ty.asked = c.loop-ty.invariant.2 in omega arith),
 )
 
 pub returns-clause-ok : goal.returns-clause-ok

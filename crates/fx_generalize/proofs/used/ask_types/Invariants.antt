@@ -10,3 +10,4 @@ abbrev pub invariant-loop-ty : goal.invariant-loop-ty
 invariant-loop-ty l =
     ((s : Solution) → Solves s l.asked ↔ (Solves s l.fn.bindings × AreTypes (from l.first s) (take l.ty-index l.types)))
     × (next_of l.asked ≤ max (next_of l.fn.bindings) (numbers_terms l.types + l.first))
+    × (next_of l.fn.bindings ≤ next_of l.asked)

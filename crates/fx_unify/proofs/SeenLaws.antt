@@ -14,7 +14,7 @@ use Rattle.fx_types.proofs.RowSums.{same_is, same_itself}
 use Rattle.fx_unify.specs.Part.{Variable, type_node, field_node, slot_node, as_part, value}
 use Rattle.fx_unify.specs.Work.{Within, IsRow}
 use Rattle.fx_unify.proofs.LabelLaws.{fresh_label}
-use Rattle.fx_infer.specs.Seen.{unless, is_type, is_field, is_row_off, sees, sees_labels, sees_pipe, sees_field, sees_fields, sees_tail, kept_at}
+use Rattle.fx_unify.specs.Seen.{unless, is_type, is_field, is_row_off, sees, sees_labels, sees_pipe, sees_field, sees_fields, sees_tail, kept_at}
 
 -- tests
 
