@@ -1,3 +1,4 @@
+pub mod ApartLaws
 pub mod AskingLaws
 pub mod ByLineLaws
 pub mod CallLaws
