@@ -91,3 +91,25 @@ same T b r is one = record {
   sound = λ s h. is s;
   complete = λ s h within p t. (s, (λ i lt. (refl, refl, refl)), h, within, one s p t);
 }
+
+-- the same, where solutions of the old bindings alone count
+module _ {R P : Type 0} (T : Solution → R → Type 0) (U : Solution → P → Type 0) (see : Solution → R → P) where
+  pub seen_where : (old new : Bindings) (f : Solution → R) → Infers T old new f → ((s q : Solution) → Agree (next_of old) s q → (r : R) → see s r ≡ see q r)
+      → ((s : Solution) (r : R) → Solves s old → T s r → U s (see s r)) → ((s : Solution) (p : P) → Solves s old → U s p → (r : R) × T s r × (see s r ≡ p)) → Infers U old new (λ s. see s (f s))
+  seen_where old new f one reads there back = record {
+    more = one.more;
+    below = λ s q agree. reads s q (agree_less (next_of new) (next_of old) s q agree one.more) (f s) ∙ ap (see q) (one.below s q agree);
+    keeps = one.keeps;
+    sound = λ s h. there s (f s) (one.keeps s h) (one.sound s h);
+    complete = λ s h within p u.
+        (let r : (r : R) × T s r × (see s r ≡ p) = back s p h u in
+        let a : (q : Solution) × Agree (next_of old) s q × Solves q new × Within q × (f q ≡ r.0) = one.complete s h within r.0 r.1 in
+        (a.0, a.1, a.2, a.3, ap (see a.0) a.4 ∙ sym (reads s a.0 a.1 r.0) ∙ r.2));
+  }
+
+-- what is asked first, and a question behind it, are one question where both together say the same
+pub asked_first : {R : Type 0} (S : Solution → Type 0) (G C : Solution → R → Type 0) (old mid new : Bindings) (f : Solution → R) → ((s : Solution) → Solves s mid ↔ (Solves s old × S s)) → next_of old ≤ next_of mid
+    → Infers G mid new f → Reads (next_of old) G → ((s : Solution) (r : R) → Solves s old → C s r ↔ (S s × G s r)) → Infers C old new f
+asked_first S G C old mid new f is le h reads same =
+    seen_where (λ s x. S s × G s x.1) C (λ s x. x.1) old new (λ s. (tt, f s)) (both (λ s u. S s) (λ u s r. G s r) old mid new (λ s. tt) f (asked S old mid le is) h (λ u. reads))
+    (λ s q agree x. refl) (λ s x h k. (same s x.1 h).1 k) (λ s r h c. ((tt, r), (same s r h).0 c, refl))

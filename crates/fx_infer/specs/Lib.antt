@@ -1,7 +1,10 @@
 pub mod Arguments
 pub mod Ask
+pub mod Calls
 pub mod Environment
+pub mod Finds
 pub mod Infers
+pub mod Lists
 pub mod Native
 pub mod Operators
 pub mod Parameters

@@ -2,6 +2,10 @@
 #![tactic(auto)]
 
 mod ask;
+mod calls;
+mod kept;
+mod lines;
 mod operators;
 mod rules;
 mod terms;
+mod uses;
