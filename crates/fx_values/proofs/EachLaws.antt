@@ -1,13 +1,12 @@
 -- What is made of each item, as far as a loop has come.
-use Rattle.std.proofs.Common.{◌≡◌, ℕ, ◌+◌, ◌<◌, ◌≤◌, List, [], ◌∷◌, ◌++◌, length, drop, get_or, map, append_assoc, refl, sym, ap, ◌∙◌}
+use Rattle.std.proofs.Common.{◌≡◌, ℕ, zero, suc, ◌+◌, ◌<◌, ◌≤◌, List, [], ◌∷◌, ◌++◌, length, drop, get_or, map, append_assoc, refl, sym, ap, arith, ◌∙◌}
 use Rattle.std.proofs.lemmas.List.{append-nil, at_drop_more, at_drop_all}
-use Rattle.std.specs.Prelude.{Result, Ok, Err}
+use Rattle.std.specs.Prelude.{Err}
 use Rattle.fx_meaning.specs.Forms.{cell_in, each, val_list}
 use Rattle.fx_meaning.specs.Natives.{cells_in}
 use Rattle.fx_meaning.specs.Value.{Val}
 use Rattle.fx_value.proofs.Ends.{later-zero, then-gives, then-then}
-use Rattle.fx_value.specs.Ends.{End, Gives, Faults, Stuck, and_then}
-use Rattle.fx_value.specs.declared.scalar.Scalar.{Scalar}
+use Rattle.fx_value.specs.Ends.{End, Gives, and_then}
 use Rattle.fx_values.specs.Shape.{val, vals_of}
 use Rattle.fx_values.specs.Told.{Tells}
 use Rattle.fx_values.specs.declared.stop.Stop.{Stop}
@@ -70,3 +69,9 @@ val_list_back (v ∷ vs) = ap (λ l. v ∷ l) (val_list_back vs)
 
 pub cells_each : (items : List Value) → each (λ v. cell_in (val v)) items ≡ cells_in (vals_of (map val items))
 cells_each items = each_map cell_in val items ∙ ap (each cell_in) (sym (val_list_back (map val items)))
+
+-- an item is itself at its place
+pub same_item : {X : Type 0} (xs : List X) (i : ℕ) (d : X) → i < length xs → get_or xs i d ≡ get_or xs i (get_or xs i d)
+same_item [] i d below = absurd (omega (arith, below))
+same_item (x ∷ xs) zero d below = refl
+same_item (x ∷ xs) (suc i) d below = same_item xs i d (omega (arith, below))

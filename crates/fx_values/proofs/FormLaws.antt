@@ -4,9 +4,9 @@ use Rattle.std.specs.declared.alloc.Global.{Global}
 use Rattle.std.specs.declared.rc.Rc.{Rc}
 use Rattle.fx_meaning.specs.Forms.{cell_in, cell_or_span, fields_in, items_in, pattern_in, span_in, stream_in}
 use Rattle.fx_meaning.specs.Operators.{is_truth}
-use Rattle.fx_meaning.specs.Value.{Val, cell, span, pattern, array, rec, closure, native, in_package, stream, shown, Vals, Slots, Stream}
+use Rattle.fx_meaning.specs.Value.{Val, cell, span, pattern, array, rec, closure, native, in_package, stream, shown}
 use Rattle.fx_time.specs.declared.span.Span.{Span}
-use Rattle.fx_value.specs.Ends.{End, Stuck}
+use Rattle.fx_value.specs.Ends.{Stuck}
 use Rattle.fx_value.specs.declared.scalar.Scalar.{Scalar}
 use Rattle.fx_values.specs.Shape.{val}
 use Rattle.fx_values.specs.declared.value.Slot.{Slot}

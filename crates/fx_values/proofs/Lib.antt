@@ -1,6 +1,8 @@
 pub mod CountLaws
 pub mod EachLaws
 pub mod FormLaws
+pub mod KeptLaws
+pub mod KnownLaws
 pub mod ListLaws
 pub mod SpanLaws
 pub mod TextLaws

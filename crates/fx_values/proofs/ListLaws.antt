@@ -1,10 +1,11 @@
 -- Lists of slots and values, item by item.
-use Rattle.std.proofs.Common.{◌≡◌, ℕ, ◌+◌, ◌<◌, Bool, true, false, List, [], ◌∷◌, ◌++◌, length, drop, get_or, map, sym, ap, refl, arith, ◌∙◌}
+use Rattle.std.proofs.Common.{◌≡◌, ℕ, ◌+◌, ◌<◌, Bool, true, false, List, [], ◌∷◌, ◌++◌, length, drop, get_or, map, sym, ap, refl, ◌∙◌}
 use Rattle.std.proofs.lemmas.List.{at_drop_more}
 use Rattle.std.specs.Prelude.{None, Some, Option, if◌then◌else◌}
 use Rattle.fx_base.specs.Text.{same_text}
-use Rattle.fx_meaning.specs.Value.{Label, Val, Slots, no_slots, more_slots, look, or_else, push, Vals, no_vals, more_vals, push_val}
-use Rattle.fx_values.specs.Shape.{OfSlot, slot, slots_of, val, vals_of}
+use Rattle.fx_meaning.specs.Value.{Label, Val, more_slots, look, or_else, push, more_vals, push_val, Stream, more_streams}
+use Rattle.fx_meaning.specs.Forms.{streams_from}
+use Rattle.fx_values.specs.Shape.{OfSlot, slot, slots_of, val, vals_of, streams_of}
 use Rattle.fx_values.specs.declared.value.Slot.{Slot}
 use Rattle.fx_values.specs.declared.value.Value.{Value}
 use Rattle.fx_values.proofs.ValueLaws.{slot_is}
@@ -46,3 +47,7 @@ slots_pushed (o ∷ os) x v = ap (more_slots o.label o.value) (slots_pushed os x
 pub vals_pushed : (vs : List Val) (v : Val) → vals_of (vs ++ v ∷ []) ≡ push_val (vals_of vs) v
 vals_pushed [] v = refl
 vals_pushed (w ∷ vs) v = ap (more_vals w) (vals_pushed vs v)
+
+pub streams_same : (cs : List Stream) → streams_of cs ≡ streams_from cs
+streams_same [] = refl
+streams_same (c ∷ cs) = ap (more_streams c) (streams_same cs)

@@ -1,24 +1,26 @@
 -- The equations of plain values, and which value has which plain one.
-use Rattle.std.proofs.Common.{◌≡◌, sym, ap, subst, ◌∙◌, map, refl, ℕ, List}
+use Rattle.std.proofs.Common.{◌≡◌, sym, ap, subst, ◌∙◌, map, refl, ℕ, List, [], ◌∷◌}
 use Rattle.std.specs.declared.alloc.Global.{Global}
 use Rattle.std.specs.declared.rc.Rc.{Rc}
-use Rattle.fx_ast.specs.Shape.{body, param, params_of}
 use Rattle.fx_base.specs.declared.place.Place.{Place}
 use Rattle.fx_meaning.specs.Value.{Label, Val, cell, span, pattern, array, rec, closure, native, in_package, stream, shown, Stream, applied}
 use Rattle.fx_meaning.specs.declared.native.Native.{Native}
 use Rattle.fx_meaning.specs.declared.package.Package.{Package}
+use Rattle.fx_meaning.specs.declared.stream.StreamFn.{StreamFn}
+use Rattle.fx_base.specs.declared.place.Place.{Place}
+use Rattle.fx_meaning.specs.Value.{Label}
 use Rattle.fx_time.specs.declared.span.Span.{Span}
 use Rattle.fx_value.specs.declared.scalar.Scalar.{Scalar}
 use Rattle.fx_values.specs.Shape.{OfSlot, OfClosure, OfShown, vals_of, slots_of, streams_of, closure_val, value_shape, closure_shape, shown_shape, slot_shape, stream_shape, val, closed, slot, call, show}
-use Rattle.fx_values.specs.declared.value.Closure.{Closure, roll-Closure}
+use Rattle.fx_values.specs.declared.value.Closure.{Closure}
 use Rattle.fx_values.specs.declared.value.Shown.{Shown, roll-Shown}
 use Rattle.fx_values.specs.declared.value.Slot.{Slot, roll-Slot}
 use Rattle.fx_values.specs.declared.value.StreamCall.{StreamCall, roll-StreamCall}
 use Rattle.fx_values.specs.declared.value.Value.{Value}
-use Rattle.fx_values.specs.declared.value.Value.TheFolds.{fold_out-Slot, fold_out-Closure, fold-roll-Value, fold-roll-Closure, fold-roll-StreamCall, fold-roll-Shown}
-use Rattle.fx_values.specs.declared.value.Value.TheOpen.{Value-F, Closure-F}
+use Rattle.fx_values.specs.declared.value.Value.TheFolds.{fold_out-Slot, fold-roll-Slot, fold-roll-Value, fold-roll-StreamCall, fold-roll-Shown}
+use Rattle.fx_values.specs.declared.value.Value.TheOpen.{Value-F}
 use Rattle.fx_values.specs.declared.value.Value.TheVariants as v
-use Rattle.fx_values.specs.declared.value.Value.TheViews.{roll-Value, out-Value, roll-out-Value, out-Closure}
+use Rattle.fx_values.specs.declared.value.Value.TheViews.{roll-Value, out-Value, roll-out-Value}
 
 pub val_cell : (a : Scalar) → val (v.Cell a) ≡ cell a
 unfolding val closed slot call show
@@ -63,6 +65,23 @@ val_done s = ap val (sym (v.rolls-Done s)) ∙ fold-roll-Value Val OfClosure OfS
 pub slot_is : (s : Slot) → slot s ≡ record { label = s.label; value = val s.value }
 unfolding val slot
 slot_is s = fold_out-Slot Val OfClosure OfShown OfSlot Stream value_shape closure_shape shown_shape slot_shape stream_shape s
+
+pub slot_made : (x : Label) (w : Value) → slot (roll-Slot (record { label = x; value = w })) ≡ record { label = x; value = val w }
+unfolding val slot
+slot_made x w = fold-roll-Slot Val OfClosure OfShown OfSlot Stream value_shape closure_shape shown_shape slot_shape stream_shape (record { label = x; value = w })
+
+pub show_made : (a : Scalar) (p : Place) (c : Rc StreamCall Global) → show (roll-Shown (record { name = a; place = p; stream = c })) ≡ record { name = a; place = p; stream = call c.value }
+unfolding show call
+show_made a p c = fold-roll-Shown Val OfClosure OfShown OfSlot Stream value_shape closure_shape shown_shape slot_shape stream_shape (record { name = a; place = p; stream = c })
+
+values_each : (cs : List (Rc StreamCall Global)) → map (λ (i : Rc Stream Global). i.value) (map (λ (i : Rc StreamCall Global). record { ptr = i.ptr; value = call i.value }) cs) ≡ map (λ (i : Rc StreamCall Global). call i.value) cs
+values_each [] = refl
+values_each (c ∷ cs) = ap (λ l. call c.value ∷ l) (values_each cs)
+
+pub call_made : (g : StreamFn) (p : Place) (cs : List (Rc StreamCall Global)) (ss : List Slot)
+    → call (roll-StreamCall (record { which = g; place = p; inputs = cs; args = ss })) ≡ applied g p (streams_of (map (λ i. call i.value) cs)) (slots_of (map slot ss))
+unfolding val slot call
+call_made g p cs ss = fold-roll-StreamCall Val OfClosure OfShown OfSlot Stream value_shape closure_shape shown_shape slot_shape stream_shape (record { which = g; place = p; inputs = cs; args = ss }) ∙ ap (λ l. applied g p (streams_of l) (slots_of (map slot ss))) (values_each cs)
 
 pub ruleset val_laws = (val_cell, val_span, val_pattern, val_list, val_rec, val_fun, val_native, val_package, val_stream, val_done)
 

@@ -1,6 +1,6 @@
 -- The plain data of a value.
-use Rattle.std.specs.Prelude.{ℕ, List, [], ◌∷◌, map}
-use Rattle.fx_ast.specs.Shape.{OfBody, body, param, params_of}
+use Rattle.std.specs.Prelude.{List, [], ◌∷◌, map}
+use Rattle.fx_ast.specs.Shape.{body, param, params_of}
 use Rattle.fx_ast.specs.Tree.{Params, Props, Tree}
 use Rattle.fx_base.specs.declared.place.Place.{Place}
 use Rattle.fx_meaning.specs.Value.{Label, Val, cell, span, pattern, array, rec, closure, native, in_package, stream, shown, Vals, no_vals, more_vals, Slots, no_slots, more_slots, Stream, applied, Streams, no_streams, more_streams}

@@ -2,7 +2,7 @@ use Rattle.std.proofs.Common.{◌≡◌, FitsSigned, w64, ap, sym, ◌∙◌, ru
 use Rattle.std.specs.Prelude.{neg_ℤ}
 use Rattle.std.proofs.lemmas.Int.{to_z-of_z}
 use Rattle.fx_values.proofs.SpanLaws.{fits_test}
-use Rattle.fx_meaning.specs.Value.{Val, span}
+use Rattle.fx_meaning.specs.Value.{span}
 use Rattle.fx_value.specs.Ends.{Gives}
 use Rattle.fx_values.proofs.operators.minus_span.Goals as goal
 
