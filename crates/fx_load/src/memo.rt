@@ -58,7 +58,8 @@ impl Model for Memo {
 }
 
 /// A number by the bytes of a line up to its first value, as far as names without backslashes go.
-pub fn start_of(line: &[u8]) -> u64 {
+/// Any number would do: it only says where a line is looked for first, so nothing is promised of it.
+pub(crate) fn start_of(line: &[u8]) -> u64 {
     let mut start: u64 = 0;
     let mut spaced = false;
     for byte in line {
@@ -127,8 +128,9 @@ impl Memo {
         None
     }
 
-    /// Whether no more lines that begin alike are worth remembering.
-    pub fn is_crowded(&self, start: u64) -> bool {
+    /// Whether no more lines that begin alike are worth remembering. Either answer would do: a line
+    /// that isn't remembered goes the plain way, so nothing is promised of it.
+    pub(crate) fn is_crowded(&self, start: u64) -> bool {
         let mut alike: u64 = 0;
         for attempt in 0..TRIES {
             match self.at(start, attempt) {
