@@ -12,7 +12,7 @@ use indexmap::IndexSet;
 use std::alloc::Global;
 
 /// So many labels are hashed; fewer are found sooner without.
-const MANY: usize = 16;
+pub(crate) const MANY: usize = 16;
 
 /// What is known of a list of labels.
 #[derive(Drop)]
