@@ -14,7 +14,7 @@ ghost use Rattle.fx_unify.specs.Work.{Hold, Holds};
 
 use crate::fault::UnifyFault;
 use crate::field::Field;
-use crate::known::Known;
+use crate::known::{Known, MANY};
 use crate::labels::add_names;
 use crate::pick::Entries;
 use crate::store::{Root, Store};
@@ -69,9 +69,15 @@ impl Store {
         requires { rest_of self.old row ≡ None }
         ensures { OnOk result (KeptAt self.old self.new row labels.now) }
     {
-        let mut known = Known::of(alloc, self.apart_of(row), labels.len())?;
+        if labels.len() < MANY {
+            for label in labels {
+                self.keep(alloc, row, label)?;
+            }
+            return Ok(());
+        }
+        let mut known = Known::of(alloc, self.apart_of(row))?;
         for label in labels {
-            if known.has(self.apart_of(row), label) {
+            if known.has(label) {
                 continue;
             }
             known.note(label)?;
