@@ -19,6 +19,7 @@ pub mod MeasureLaws
 pub mod NumberLaws
 pub mod OpenLaws
 pub mod PutInLaws
+pub mod PlaceLaws
 pub mod PlainRowLaws
 pub mod PlainestLaws
 pub mod RowLaws

@@ -170,13 +170,17 @@ kept_there apart rest l x none =
     (λ e. ap (λ b. if b then None else option_map (root_at l) rest) (chosen (same_text l x) true (listed l apart) e) ∙ sym (ap (rest_in apart rest) (same_is l x e) ∙ none))
     (λ e. ap (λ b. if b then None else option_map (root_at l) rest) (passed (same_text l x) true (listed l apart) e))
 
+pub kept_last : (st st' : stores.Store) (r : ℕ) (x : Label) → ((m : ℕ) → get_or st'.apart.items m [] ≡ (if m == r then get_or st.apart.items r [] ++ x ∷ [] else get_or st.apart.items m []))
+    → apart_of st' r ≡ apart_of st r ++ x ∷ []
+kept_last st st' r x put = put r ∙ chosen (r == r) (get_or st.apart.items r [] ++ x ∷ []) (get_or st.apart.items r []) (eq-eqb r r refl)
+
 pub kept_more : (st st' : stores.Store) (r : ℕ) (x : Label) → rest_in (apart_of st r) (rest_of st r) x ≡ None → st'.types ≡ st.types → st'.fields ≡ st.fields → st'.slots ≡ st.slots → st'.rests ≡ st.rests
     → ((m : ℕ) → get_or st'.apart.items m [] ≡ (if m == r then get_or st.apart.items r [] ++ x ∷ [] else get_or st.apart.items m []))
     → ((y : Variable) → entry st' y ≡ entry st y) × ((l : Label) → listed l (apart_of st' r) ≡ (if same_text l x then true else listed l (apart_of st r)))
 kept_more st st' r x none types fields slots rests put = (same, λ l. ap (listed l) here ∙ listed_one_more l x (apart_of st r))
   where
     here : apart_of st' r ≡ apart_of st r ++ x ∷ []
-    here = put r ∙ chosen (r == r) (get_or st.apart.items r [] ++ x ∷ []) (get_or st.apart.items r []) (eq-eqb r r refl)
+    here = kept_last st st' r x put
 
     others : (m : ℕ) (l : Label) → rest_in (apart_of st' m) (rest_of st m) l ≡ rest_in (apart_of st m) (rest_of st m) l
     others m l =

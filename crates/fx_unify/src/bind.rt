@@ -1,6 +1,6 @@
 //! One variable more that is bound.
 
-ghost use Rattle.std.specs.Prelude.{◌≡◌, ◌↔◌, true, false, OnOk, None, if◌then◌else◌};
+ghost use Rattle.std.specs.Prelude.{◌≡◌, ◌↔◌, ◌++◌, ◌∷◌, [], true, false, OnOk, None, if◌then◌else◌};
 ghost use Rattle.fx_base.specs.Text.{same_text};
 ghost use Rattle.fx_types.specs.Ground.{listed};
 ghost use Rattle.fx_types.specs.Instance.{Solution, ground};
@@ -89,6 +89,18 @@ impl Store {
         if has_text(self.apart_of(row), label) {
             return Ok(());
         }
+        self.keep_more(alloc, row, label)
+    }
+
+    /// Keeps a row variable apart at a label at which it wasn't.
+    pub(crate) fn keep_more(&mut self, alloc: Global, row: u32, label: &Text) -> Result<(), Memory>
+        requires { rest_in (apart_of self.old row) (rest_of self.old row) label.now ≡ None }
+        ensures same { OnOk result ((x : Variable) → entry self.new x ≡ entry self.old x) }
+        ensures apart { OnOk result (apart_of self.new row ≡ apart_of self.old row ++ label.now ∷ []) }
+        ensures slots { self.new.slots ≡ self.old.slots }
+        ensures rests { self.new.rests ≡ self.old.rests }
+        ensures work { self.new.work ≡ self.old.work }
+    {
         let label = label.copy()?;
         add(alloc, &mut self.apart, row, label)
     }

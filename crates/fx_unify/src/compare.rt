@@ -14,6 +14,7 @@ ghost use Rattle.fx_unify.specs.Work.{Hold, Holds};
 
 use crate::fault::UnifyFault;
 use crate::field::Field;
+use crate::known::{Known, MANY};
 use crate::labels::add_names;
 use crate::pick::Entries;
 use crate::store::{Root, Store};
@@ -68,8 +69,19 @@ impl Store {
         requires { rest_of self.old row ≡ None }
         ensures { OnOk result (KeptAt self.old self.new row labels.now) }
     {
+        if labels.len() < MANY {
+            for label in labels {
+                self.keep(alloc, row, label)?;
+            }
+            return Ok(());
+        }
+        let mut known = Known::of(alloc, self.apart_of(row))?;
         for label in labels {
-            self.keep(alloc, row, label)?;
+            if known.has(label) {
+                continue;
+            }
+            known.note(label)?;
+            self.keep_more(alloc, row, label)?;
         }
         Ok(())
     }
@@ -86,8 +98,8 @@ fn put_off_all(
     requires { AreDistinct labels.now }
     ensures { OnOk result ((s : Solution) → Hold s work.new.items ↔ (Hold s work.old.items × SameAt (ground_row s (row_term a)) (ground_row s (row_term b)) labels.now)) }
 {
-    let mut left = Entries::of(a);
-    let mut right = Entries::of(b);
+    let mut left = Entries::of(alloc, a)?;
+    let mut right = Entries::of(alloc, b)?;
     for label in labels {
         let first = left.take(alloc, label)?;
         let second = right.take(alloc, label)?;

@@ -6,56 +6,40 @@ ghost use Rattle.fx_types.specs.Term.{Label};
 ghost use Rattle.fx_unify.specs.Known.{Knows};
 ghost use Rattle.fx_unify.specs.Rows.{Grows};
 
-use crate::labels::has_text;
 use fx_base::{Memory, Text};
 use indexmap::IndexSet;
 use std::alloc::Global;
 
 /// So many labels are hashed; fewer are found sooner without.
-const MANY: usize = 16;
+pub(crate) const MANY: usize = 16;
 
-/// What is known of a list of labels.
+/// The labels of a list.
 #[derive(Drop)]
 pub(crate) struct Known {
-    /// Whether its labels are hashed.
-    many: bool,
     labels: IndexSet<Text>,
 }
 
 impl Known {
-    /// Of a list in which so many labels are to be looked for.
-    pub(crate) fn of(alloc: Global, labels: &[Text], count: usize) -> Result<Known, Memory>
+    pub(crate) fn of(alloc: Global, labels: &[Text]) -> Result<Known, Memory>
         ensures { IfOk result (λ k. Knows k labels.now) }
     {
-        let many = count >= MANY;
         let mut hashed = IndexSet::new(alloc);
-        if many {
-            hash_all(&mut hashed, labels)?;
-        }
-        Ok(Known {
-            many,
-            labels: hashed,
-        })
+        hash_all(&mut hashed, labels)?;
+        Ok(Known { labels: hashed })
     }
 
     /// Whether the label stands in the list.
-    pub(crate) fn has(&self, labels: &[Text], label: &Text) -> bool
-        requires { Knows self.now labels.now }
-        ensures { result ≡ listed label.now labels.now }
+    pub(crate) fn has(&self, label: &Text) -> bool
+        ensures { (ls : List Label) → Knows self.now ls → result ≡ listed label.now ls }
     {
-        if self.many {
-            return self.labels.contains(label);
-        }
-        has_text(labels, label)
+        self.labels.contains(label)
     }
 
     /// The list got the label.
     pub(crate) fn note(&mut self, label: &Text) -> Result<(), Memory>
         ensures { OnOk result ((ls : List Label) → Knows self.old ls → Knows self.new (ls ++ label.now ∷ [])) }
     {
-        if self.many {
-            self.labels.insert(label.copy()?)?;
-        }
+        self.labels.insert(label.copy()?)?;
         Ok(())
     }
 
@@ -66,7 +50,7 @@ impl Known {
         ensures there { OnOk result (listed label.now labels.new.items ≡ true) }
         ensures grows { OnOk result (Grows labels.old.items labels.new.items) }
     {
-        if self.has(labels.as_slice(), label) {
+        if self.has(label) {
             return Ok(());
         }
         self.note(label)?;

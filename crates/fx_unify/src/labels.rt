@@ -9,7 +9,7 @@ ghost use Rattle.fx_unify.specs.Store.{slot_names};
 ghost use Rattle.fx_unify.specs.Sums.{names, required_names};
 
 use crate::fault::UnifyFault;
-use crate::known::Known;
+use crate::known::{Known, MANY};
 use crate::store::Slot;
 use fx_base::{Memory, Text};
 use fx_types::{LabelField, LabelTy};
@@ -72,7 +72,13 @@ pub(crate) fn add_names(
     ensures there { OnOk result ((l : Label) → listed l (names entries.now) ≡ true → listed l labels.new.items ≡ true) }
     ensures grows { OnOk result (Grows labels.old.items labels.new.items) }
 {
-    let mut known = Known::of(alloc, labels.as_slice(), entries.len())?;
+    if entries.len() < MANY {
+        for entry in entries {
+            add_label(labels, &entry.label)?;
+        }
+        return Ok(());
+    }
+    let mut known = Known::of(alloc, labels.as_slice())?;
     for entry in entries {
         known.add(labels, &entry.label)?;
     }
@@ -84,7 +90,13 @@ pub(crate) fn add_slots(alloc: Global, labels: &mut Vec<Text>, slots: &[Slot]) -
     ensures there { OnOk result ((l : Label) → listed l (slot_names slots.now) ≡ true → listed l labels.new.items ≡ true) }
     ensures grows { OnOk result (Grows labels.old.items labels.new.items) }
 {
-    let mut known = Known::of(alloc, labels.as_slice(), slots.len())?;
+    if slots.len() < MANY {
+        for slot in slots {
+            add_label(labels, &slot.label)?;
+        }
+        return Ok(());
+    }
+    let mut known = Known::of(alloc, labels.as_slice())?;
     for slot in slots {
         known.add(labels, &slot.label)?;
     }
@@ -100,7 +112,13 @@ pub(crate) fn add_texts(
     ensures there { OnOk result ((l : Label) → listed l others.now ≡ true → listed l labels.new.items ≡ true) }
     ensures grows { OnOk result (Grows labels.old.items labels.new.items) }
 {
-    let mut known = Known::of(alloc, labels.as_slice(), others.len())?;
+    if others.len() < MANY {
+        for label in others {
+            add_label(labels, label)?;
+        }
+        return Ok(());
+    }
+    let mut known = Known::of(alloc, labels.as_slice())?;
     for label in others {
         known.add(labels, label)?;
     }

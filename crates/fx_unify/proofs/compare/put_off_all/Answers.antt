@@ -18,6 +18,8 @@ loop-label-preserved c =
           c.loop-label-test.true c.label-item.is c.take.ensures.others c.loop-label.invariant.left;
       right = left_over (λ s. ground_entries s c.loop-label.right) (λ s. ground_entries s c.take-in-loop-label.new.self) (λ s. ground_row s (row_term c.args.b)) c.args.labels.now c.loop-label.label-index
           c.label-item.result c.loop-label-test.true c.label-item.is c.take-in-loop-label.ensures.others c.loop-label.invariant.right;
+      left_hashed = c.take.ensures.hashed;
+      right_hashed = c.take-in-loop-label.ensures.hashed;
     }
 
 pub returns : goal.returns

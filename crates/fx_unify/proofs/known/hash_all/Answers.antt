@@ -1,6 +1,5 @@
-use Rattle.std.proofs.Common.{ap, ◌∙◌, ◌≡◌, subst}
+use Rattle.std.proofs.Common.{ap, ◌∙◌}
 use Rattle.fx_types.specs.Ground.{listed}
-use Rattle.fx_types.specs.Term.{Label}
 use Rattle.fx_types.proofs.Lists.{take_all}
 use Rattle.fx_unify.proofs.KnownLaws.{hashed_next}
 use Rattle.fx_unify.proofs.known.hash_all.Goals as goal

@@ -8,4 +8,8 @@ use Rattle.fx_unify.proofs.labels.add_slots.Given as goal
 
 abbrev pub invariant-loop-slot : goal.invariant-loop-slot
 invariant-loop-slot l =
+    ((x : Label) → listed x (slot_names (take l.slot-index l.slots)) ≡ true → listed x l.labels.items ≡ true) × Grows l.initial.labels.items l.labels.items
+
+abbrev pub invariant-loop-slot-2 : goal.invariant-loop-slot-2
+invariant-loop-slot-2 l =
     ((x : Label) → listed x (slot_names (take l.slot-index l.slots)) ≡ true → listed x l.labels.items ≡ true) × Grows l.initial.labels.items l.labels.items × Knows l.known l.labels.items
