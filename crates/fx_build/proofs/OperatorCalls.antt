@@ -42,7 +42,7 @@ use Rattle.fx_build.specs.Fit.{FurtherFit, IsMoment, each_fits, fits, is_cell, k
 use Rattle.fx_build.specs.Rows.{RowFits, TablesFit, is_column_of}
 use Rattle.fx_build.specs.Safe.{IsSafe}
 use Rattle.fx_build.specs.Sources.{AreLawful, Stored, source_tables}
-use Rattle.fx_build.specs.Streams.{bound_at, bound_or_now, bucket_tables, from_array, from_bucket, in_range, in_time, moment_in, no_argument, of_none, of_one, operator, row_in, text_at}
+use Rattle.fx_build.specs.Operators.{bound_at, bound_or_now, bucket_tables, from_array, from_bucket, in_range, in_time, moment_in, no_argument, of_none, of_one, operator, row_in, text_at}
 use Rattle.fx_build.proofs.KindLaws.{of_array, of_cell, of_record, of_span, of_text}
 use Rattle.fx_build.proofs.RowCalls.{tested_safe, turned_safe}
 use Rattle.fx_build.proofs.RowLaws.{no_columns, put_fits, row_safe}
