@@ -2,6 +2,7 @@ pub mod AnswerLaws
 pub mod Applied
 pub mod ArgLaws
 pub mod Callable
+pub mod ChoiceCalls
 pub mod ColumnCalls
 pub mod ConvertCalls
 pub mod Entered

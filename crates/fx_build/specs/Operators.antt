@@ -14,6 +14,8 @@ use Rattle.fx_value.specs.declared.scalar.Scalar.TheVariants as scalar
 use Rattle.fx_types.specs.Ground.{listed}
 use Rattle.fx_types.specs.Term.{Label}
 use Rattle.fx_data.specs.declared.table.Table.{Table}
+use Rattle.fx_agg.specs.Aggregate.{aggregated}
+use Rattle.fx_agg.specs.declared.agg.Agg.TheVariants.{First, Last, Max, Min}
 use Rattle.fx_group.specs.Filter.{filtered, table_if}
 use Rattle.fx_group.specs.Group.{grouped_by, grouped_except}
 use Rattle.fx_group.specs.Map.{mapped}
@@ -21,8 +23,10 @@ use Rattle.fx_group.specs.Range.{ranged}
 use Rattle.fx_group.specs.Union.{united}
 use Rattle.fx_shape.specs.Columns.{column_doubled, column_filled, column_set}
 use Rattle.fx_shape.specs.Keep.{columns_dropped, columns_kept}
+use Rattle.fx_shape.specs.Rename.{columns_renamed}
 use Rattle.fx_shape.specs.Part.{limited, tailed}
-use Rattle.fx_schemes.specs.Given.{Given, is_one_of, list_at, text_at as word_at}
+use Rattle.fx_schemes.specs.declared.given.LabelWords.{LabelWords}
+use Rattle.fx_schemes.specs.Given.{Given, is_one_of, list_at, text_at as word_at, words_at}
 use Rattle.fx_meaning.specs.declared.stream.StreamFn.{StreamFn}
 use Rattle.fx_meaning.specs.declared.stream.StreamFn.TheVariants as s
 use Rattle.fx_meaning.specs.Ends.{◌>>=◌, fault_at, found, pure}
@@ -153,11 +157,25 @@ with_value made column args tables = do
   value ← cell_of (codes "value") args
   pure (made label value tables)
 
+-- what works on one column, at its word
+abbrev pub at_column : (Label → List Table → End (List Table)) → Given → List Table → End (List Table)
+at_column made w tables = do
+  column ← found (word_at w (codes "column") (Some (codes "_value")))
+  made column tables
+
 abbrev pub doubled_in : Given → List Table → End (List Table)
 doubled_in w tables = do
   column ← found (word_at w (codes "column") None)
   copy ← found (word_at w (codes "as") None)
   pure (column_doubled column copy tables)
+
+-- the words of `columns`: olds and news
+abbrev pub renamed_by : Option LabelWords → List Table → End (List Table)
+renamed_by None tables = Stuck
+renamed_by (Some g) tables = pure (columns_renamed g.words g.news tables)
+
+abbrev pub renamed_in : Given → List Table → End (List Table)
+renamed_in w tables = renamed_by (words_at w (codes "columns")) tables
 
 module _ (test : Tests) (stored : Stored) where
   abbrev pub of_wanted_rows : Given → Slots → List Table → ℕ → End (List Table)
@@ -186,4 +204,9 @@ module _ (test : Tests) (stored : Stored) where
   operator s.Set place w args limit = of_one (with_value column_set (word_at w (codes "key") None) args)
   operator s.Fill place w args limit = of_one (with_value column_filled (word_at w (codes "column") (Some (codes "_value"))) args)
   operator s.Duplicate place w args limit = of_one (doubled_in w)
+  operator s.Min place w args limit = of_one (at_column (aggregated place Min) w)
+  operator s.Max place w args limit = of_one (at_column (aggregated place Max) w)
+  operator s.First place w args limit = of_one (at_column (aggregated place First) w)
+  operator s.Last place w args limit = of_one (at_column (aggregated place Last) w)
+  operator s.Rename place w args limit = of_one (renamed_in w)
   operator _ place w args limit = λ received. Stuck

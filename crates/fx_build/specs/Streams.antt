@@ -81,6 +81,10 @@ is_listed s.DropColumns = true
 is_listed s.Set = true
 is_listed s.Fill = true
 is_listed s.Duplicate = true
+is_listed s.Min = true
+is_listed s.Max = true
+is_listed s.First = true
+is_listed s.Last = true
 is_listed _ = false
 
 -- the stream is made of these alone
