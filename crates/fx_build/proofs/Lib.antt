@@ -6,6 +6,7 @@ pub mod ChoiceCalls
 pub mod ColumnCalls
 pub mod ConvertCalls
 pub mod Entered
+pub mod FoldCalls
 pub mod FoldLaws
 pub mod KindLaws
 pub mod MemberCalls
@@ -14,6 +15,7 @@ pub mod NativeCalls
 pub mod NativeLaws
 pub mod OperatorCalls
 pub mod OperatorLaws
+pub mod PairCalls
 pub mod ParamLaws
 pub mod PlainCalls
 pub mod RowCalls

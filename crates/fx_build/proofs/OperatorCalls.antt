@@ -154,7 +154,7 @@ module _ (test : Tests) (stored : Stored) where
   -- ---- `array.from`
 
   module _ (q : GroundRow) (plain : (l : Label) → IsTrue (is_plain (q l))) where
-    row_in_safe : (v : Val) → fits v (g_rec q) → IsSafe (RowFits q) (row_in v)
+    pub row_in_safe : (v : Val) → fits v (g_rec q) → IsSafe (RowFits q) (row_in v)
     row_in_safe v h = of_record q v (λ y. IsSafe (RowFits q) (row_in y)) h (λ fields fit. safe_later (RowFits q) 0 (row_from no_columns fields) (row_safe q plain fields fit))
 
     rows_safe : (vs : Vals) → each_fits vs (g_rec q) → IsSafe (AllByRecursion (RowFits q)) (each row_in (val_list vs))

@@ -15,6 +15,7 @@ use Rattle.fx_types.specs.Ground.{listed}
 use Rattle.fx_types.specs.Term.{Label}
 use Rattle.fx_data.specs.declared.table.Table.{Table}
 use Rattle.fx_agg.specs.Aggregate.{aggregated}
+use Rattle.fx_agg.specs.Reduce.{reduced}
 use Rattle.fx_agg.specs.declared.agg.Agg.TheVariants.{First, Last, Max, Min}
 use Rattle.fx_group.specs.Filter.{filtered, table_if}
 use Rattle.fx_group.specs.Group.{grouped_by, grouped_except}
@@ -185,6 +186,13 @@ module _ (test : Tests) (stored : Stored) where
   abbrev pub of_made_rows : Slots → List Table → ℕ → End (List Table)
   of_made_rows args tables limit = argument (codes "fn") args >>= (λ f. mapped (row_meaning test f) tables limit)
 
+  abbrev pub of_folded_rows : Slots → List Table → ℕ → End (List Table)
+  of_folded_rows args tables limit = do
+    v ← argument (codes "identity") args
+    identity ← row_in v
+    f ← argument (codes "fn") args
+    reduced (row_meaning test f) identity tables limit
+
   -- what an operator makes of the tables of its inputs, with the words that its arguments say. It calls functions of rows
   -- under the limit. Those that aren't listed come later
   abbrev pub operator : StreamFn → Place → Given → Slots → ℕ → List (List Table) → End (List Table)
@@ -208,5 +216,6 @@ module _ (test : Tests) (stored : Stored) where
   operator s.Max place w args limit = of_one (at_column (aggregated place Max) w)
   operator s.First place w args limit = of_one (at_column (aggregated place First) w)
   operator s.Last place w args limit = of_one (at_column (aggregated place Last) w)
+  operator s.Reduce place w args limit = of_one (λ tables. of_folded_rows args tables limit)
   operator s.Rename place w args limit = of_one (renamed_in w)
   operator _ place w args limit = λ received. Stuck
