@@ -141,7 +141,7 @@ module _ (P Q : Row → Type 0) (stays : Label → Bool) (left : (row : Row) →
 
 -- ---- rows with other columns
 
-named_listed : (xs : List Label) (l : Label) → is_named xs l ≡ listed l xs
+pub named_listed : (xs : List Label) (l : Label) → is_named xs l ≡ listed l xs
 named_listed [] l = refl
 named_listed (x ∷ xs) l = step (same_text l x) (named_listed xs l)
   where
@@ -149,7 +149,7 @@ named_listed (x ∷ xs) l = step (same_text l x) (named_listed xs l)
     step true e = refl
     step false e = e
 
-get_left : (stays : Label → Bool) (row : Row) (l : Label) → get (fin.retain_keys row stays) l ≡ cond (stays l) (get row l) None
+pub get_left : (stays : Label → Bool) (row : Row) (l : Label) → get (fin.retain_keys row stays) l ≡ cond (stays l) (get row l) None
 get_left stays row l = fin.get-retain_keys row stays l (λ x tie. ap stays (sym (text_same l x tie)))
 
 kept_fits : (xs : List Label) (r : GroundRow) (row : Row) → RowFits r row → RowFits (kept xs r g_absent) (fin.retain_keys row (is_named xs))

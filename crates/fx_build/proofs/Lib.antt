@@ -18,6 +18,7 @@ pub mod OperatorLaws
 pub mod PairCalls
 pub mod ParamLaws
 pub mod PlainCalls
+pub mod RenameCalls
 pub mod RowCalls
 pub mod RowLaws
 pub mod RunLaws

@@ -86,6 +86,7 @@ is_listed s.Max = true
 is_listed s.First = true
 is_listed s.Last = true
 is_listed s.Reduce = true
+is_listed s.Rename = true
 is_listed _ = false
 
 -- the stream is made of these alone
