@@ -2,8 +2,11 @@ pub mod AnswerLaws
 pub mod Applied
 pub mod ArgLaws
 pub mod Callable
+pub mod ChoiceCalls
+pub mod ColumnCalls
 pub mod ConvertCalls
 pub mod Entered
+pub mod FoldCalls
 pub mod FoldLaws
 pub mod KindLaws
 pub mod MemberCalls
@@ -12,8 +15,10 @@ pub mod NativeCalls
 pub mod NativeLaws
 pub mod OperatorCalls
 pub mod OperatorLaws
+pub mod PairCalls
 pub mod ParamLaws
 pub mod PlainCalls
+pub mod RenameCalls
 pub mod RowCalls
 pub mod RowLaws
 pub mod RunLaws
@@ -24,6 +29,7 @@ pub mod Sound
 pub mod Soundness
 pub mod SourceLaws
 pub mod StreamCalls
+pub mod StreamLimits
 pub mod StreamLines
 pub mod StreamRuns
 pub mod TableLaws

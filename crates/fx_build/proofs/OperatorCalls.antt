@@ -42,7 +42,7 @@ use Rattle.fx_build.specs.Fit.{FurtherFit, IsMoment, each_fits, fits, is_cell, k
 use Rattle.fx_build.specs.Rows.{RowFits, TablesFit, is_column_of}
 use Rattle.fx_build.specs.Safe.{IsSafe}
 use Rattle.fx_build.specs.Sources.{AreLawful, Stored, source_tables}
-use Rattle.fx_build.specs.Streams.{bound_at, bound_or_now, bucket_tables, from_array, from_bucket, in_range, in_time, moment_in, no_argument, of_none, of_one, operator, row_in, text_at}
+use Rattle.fx_build.specs.Operators.{bound_at, bound_or_now, bucket_tables, from_array, from_bucket, in_range, in_time, moment_in, no_argument, of_none, of_one, operator, row_in, text_at}
 use Rattle.fx_build.proofs.KindLaws.{of_array, of_cell, of_record, of_span, of_text}
 use Rattle.fx_build.proofs.RowCalls.{tested_safe, turned_safe}
 use Rattle.fx_build.proofs.RowLaws.{no_columns, put_fits, row_safe}
@@ -154,7 +154,7 @@ module _ (test : Tests) (stored : Stored) where
   -- ---- `array.from`
 
   module _ (q : GroundRow) (plain : (l : Label) → IsTrue (is_plain (q l))) where
-    row_in_safe : (v : Val) → fits v (g_rec q) → IsSafe (RowFits q) (row_in v)
+    pub row_in_safe : (v : Val) → fits v (g_rec q) → IsSafe (RowFits q) (row_in v)
     row_in_safe v h = of_record q v (λ y. IsSafe (RowFits q) (row_in y)) h (λ fields fit. safe_later (RowFits q) 0 (row_from no_columns fields) (row_safe q plain fields fit))
 
     rows_safe : (vs : Vals) → each_fits vs (g_rec q) → IsSafe (AllByRecursion (RowFits q)) (each row_in (val_list vs))

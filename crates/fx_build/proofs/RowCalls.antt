@@ -40,14 +40,14 @@ use Rattle.fx_build.proofs.SlotLaws.{same_itself}
 abbrev r_label : Label
 r_label = codes "r"
 
-no_pipes : (xs : List Label) (P : Label → Ground) → input_of (first xs) P ≡ g_absent → xs ≡ []
+pub no_pipes : (xs : List Label) (P : Label → Ground) → input_of (first xs) P ≡ g_absent → xs ≡ []
 no_pipes [] P e = refl
 no_pipes (x ∷ xs) P e = absurd (clash (P x) e)
   where
     clash : (t : Ground) → g_is t ≡ g_absent → ⊥
     clash t e = cc
 
-due_listed : (ps : Params) (l : Label) → piped ps ≡ [] → listed l (due ps) ≡ is_required l ps
+pub due_listed : (ps : Params) (l : Label) → piped ps ≡ [] → listed l (due ps) ≡ is_required l ps
 due_listed no_params l e = refl
 due_listed (more_params x required ps) l e = step (same_text l x) (due_listed ps l e)
   where
@@ -97,7 +97,7 @@ due_differ (more_params x by_pipe ps) h = differ_step x (due ps) (param_names ps
 due_differ (more_params x (by_value d) ps) h = due_differ ps (differ_rest x (param_names ps) h)
 
 -- labels without repeats that are just the one
-one_label : (xs : List Label) (y : Label) → differ xs ≡ true → ((l : Label) → listed l xs ≡ same_text l y) → xs ≡ y ∷ []
+pub one_label : (xs : List Label) (y : Label) → differ xs ≡ true → ((l : Label) → listed l xs ≡ same_text l y) → xs ≡ y ∷ []
 one_label [] y h same = absurd (false≢true (same y ∙ same_itself y))
 one_label (x ∷ []) y h same = ap (λ z. z ∷ []) (equal_text x y (sym (sym (same x) ∙ first_listed (same_text x x) false (same_itself x))))
   where
@@ -187,12 +187,12 @@ module _ (test : Tests) (limit : ℕ) (r : GroundRow) (t : Ground) (row : Row) (
 
 -- ---- answers
 
-truth_safe : (v : Val) → fits v g_bool → IsSafe (λ answer. IsSafe (λ wanted. Unit {0}) (truth_of answer)) (answer_of v)
+pub truth_safe : (v : Val) → fits v g_bool → IsSafe (λ answer. IsSafe (λ wanted. Unit {0}) (truth_of answer)) (answer_of v)
 truth_safe v h =
     of_cell kind.Bool v (λ y. IsSafe (λ answer. IsSafe (λ wanted. Unit {0}) (truth_of answer)) (answer_of y)) h
     (λ a is. of_flag a (λ c. IsSafe (λ wanted. Unit {0}) (truth_of (Cell c))) is tt (λ c. tt))
 
-line_safe : (q : GroundRow) → ((l : Label) → IsTrue (is_plain (q l))) → (v : Val) → fits v (g_rec q) → IsSafe (λ answer. IsSafe (RowFits q) (line_of answer)) (answer_of v)
+pub line_safe : (q : GroundRow) → ((l : Label) → IsTrue (is_plain (q l))) → (v : Val) → fits v (g_rec q) → IsSafe (λ answer. IsSafe (RowFits q) (line_of answer)) (answer_of v)
 line_safe q plain v h =
     of_record q v (λ y. IsSafe (λ answer. IsSafe (RowFits q) (line_of answer)) (answer_of y)) h
     (λ fields fit. safe_then (RowFits q) (λ answer. IsSafe (RowFits q) (line_of answer)) (row_from no_columns fields) (λ row. pure (RowLine row)) (row_safe q plain fields fit) (λ row is. is))

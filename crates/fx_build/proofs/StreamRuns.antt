@@ -24,9 +24,14 @@ use Rattle.fx_build.specs.Fit.{FurtherFit, InputsFit, inputs_at, inputs_fit, kee
 use Rattle.fx_build.specs.Rows.{TablesFit}
 use Rattle.fx_build.specs.Safe.{IsSafe}
 use Rattle.fx_build.specs.Said.{said_in}
+use Rattle.fx_build.specs.Operators.{operator}
 use Rattle.fx_build.specs.Sources.{AreLawful, Stored}
-use Rattle.fx_build.specs.Streams.{all_listed, counted, inputs_listed, inputs_run, is_listed, is_source, operator, operator_run, size_of, sizes_of, stream_meaning, stream_run, yield_meaning}
+use Rattle.fx_build.specs.Streams.{all_listed, counted, inputs_listed, inputs_run, is_listed, is_source, operator_run, size_of, sizes_of, stream_meaning, stream_run, yield_meaning}
+use Rattle.fx_build.proofs.ChoiceCalls.{first_safe, last_safe, max_safe, min_safe}
+use Rattle.fx_build.proofs.FoldCalls.{reduce_safe}
+use Rattle.fx_build.proofs.ColumnCalls.{drop_safe, duplicate_safe, fill_safe, group_safe, keep_safe, limit_safe, set_safe, tail_safe, union_safe}
 use Rattle.fx_build.proofs.OperatorCalls.{AreTables, HaveTables, OperatorIsSafe, array_safe, bools_safe, filter_safe, from_safe, map_safe, range_safe, texts_safe}
+use Rattle.fx_build.proofs.RenameCalls.{rename_safe}
 use Rattle.fx_build.proofs.SafeLaws.{safe_as, safe_cut, safe_later, safe_then}
 use Rattle.fx_build.proofs.StreamLines.{AreStreams, HasInputs, MakesStream, stream_lined}
 
@@ -54,6 +59,21 @@ module _ (test : Tests) (stored : Stored) (lawful : AreLawful stored) where
   operator_safe s.Range listed = range_safe test stored
   operator_safe s.Filter listed = filter_safe test stored
   operator_safe s.Map listed = map_safe test stored
+  operator_safe s.Group listed = group_safe test stored
+  operator_safe s.Union listed = union_safe test stored
+  operator_safe s.Limit listed = limit_safe test stored
+  operator_safe s.Tail listed = tail_safe test stored
+  operator_safe s.Keep listed = keep_safe test stored
+  operator_safe s.DropColumns listed = drop_safe test stored
+  operator_safe s.Set listed = set_safe test stored
+  operator_safe s.Fill listed = fill_safe test stored
+  operator_safe s.Duplicate listed = duplicate_safe test stored
+  operator_safe s.Min listed = min_safe test stored
+  operator_safe s.Max listed = max_safe test stored
+  operator_safe s.First listed = first_safe test stored
+  operator_safe s.Last listed = last_safe test stored
+  operator_safe s.Reduce listed = reduce_safe test stored
+  operator_safe s.Rename listed = rename_safe test stored
   operator_safe _ listed = absurd (false≢true listed)
 
   counted_safe : (g : StreamFn) (r : GroundRow) (received : List (List Table)) (made : End (List Table)) → IsSafe (TablesFit r) made → IsSafe (TablesFit r) (counted g received made)

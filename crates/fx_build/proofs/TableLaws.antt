@@ -32,7 +32,7 @@ EachRow P tables = AllByRecursion (λ t. AllByRecursion P t.rows) tables
 -- ---- gathered tables have the rows of the tables
 
 module _ (P : Row → Type 0) where
-  all_with : (k : Key) (ts : List Table) → EachRow P ts → AllByRecursion P (rows_with k ts)
+  pub all_with : (k : Key) (ts : List Table) → EachRow P ts → AllByRecursion P (rows_with k ts)
   all_with k [] h = tt
   all_with k (t ∷ ts) h =
       elim (eq_by_cmp key_cmp k t.key) as (λ b. AllByRecursion P (flat_map (λ u. u.rows) (cond b (t ∷ filter (λ u. eq_by_cmp key_cmp k u.key) ts) (filter (λ u. eq_by_cmp key_cmp k u.key) ts)))) [

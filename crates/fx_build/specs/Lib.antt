@@ -1,5 +1,6 @@
 pub mod Bound
 pub mod Fit
+pub mod Operators
 pub mod Rows
 pub mod Run
 pub mod Safe

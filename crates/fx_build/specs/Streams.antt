@@ -1,32 +1,18 @@
 -- What streams mean over stored points: each operator makes tables of those of its inputs. A value of a stream is the
 -- tree of its operators, with their arguments; here it is run.
-use Rattle.std.specs.Prelude.{ℕ, ◌+◌, ℤ, Bool, true, false, ◌&&◌, List, [], ◌∷◌, length, Option, None, Some, codes, if◌then◌else◌}
-use Rattle.std.specs.FinMap.{empty}
-use Rattle.fx_base.specs.declared.fault.FaultKind.{FaultKind}
-use Rattle.fx_base.specs.declared.fault.FaultKind.TheVariants.{NoBucket, NullArgument, TimeRange}
+use Rattle.std.specs.Prelude.{ℕ, ◌+◌, Bool, true, false, ◌&&◌, List, [], ◌∷◌, length, Some, if◌then◌else◌}
 use Rattle.fx_base.specs.declared.place.Place.{Place}
-use Rattle.fx_time.specs.Spans.{span_after}
-use Rattle.fx_value.specs.Ends.{End, Gives, Faults, Stuck, later, cut}
-use Rattle.fx_value.specs.declared.scalar.Kind.{Kind}
-use Rattle.fx_value.specs.declared.scalar.Kind.TheVariants as kind
-use Rattle.fx_value.specs.declared.scalar.Scalar.TheVariants as scalar
-use Rattle.fx_types.specs.Ground.{listed}
-use Rattle.fx_types.specs.Term.{Label}
+use Rattle.fx_value.specs.Ends.{End, Gives, later, cut}
 use Rattle.fx_data.specs.declared.table.Table.{Table}
-use Rattle.fx_group.specs.Filter.{filtered, table_if}
-use Rattle.fx_group.specs.Map.{mapped}
-use Rattle.fx_group.specs.Range.{ranged}
-use Rattle.fx_schemes.specs.Given.{Given, is_one_of}
 use Rattle.fx_meaning.specs.declared.stream.StreamFn.{StreamFn}
 use Rattle.fx_meaning.specs.declared.stream.StreamFn.TheVariants as s
-use Rattle.fx_meaning.specs.Ends.{◌>>=◌, fault_at, found, pure}
-use Rattle.fx_meaning.specs.Forms.{argument, each, fields_in, items_of, val_list}
+use Rattle.fx_meaning.specs.Ends.{◌>>=◌, found, pure}
 use Rattle.fx_meaning.specs.Meaning.{Tests}
 use Rattle.fx_meaning.specs.Native.{stream_builtin}
-use Rattle.fx_meaning.specs.Rows.{Row, row_from, row_meaning}
-use Rattle.fx_meaning.specs.Value.{Val, cell, span, Slots, look, Stream, applied, Streams, no_streams, more_streams}
+use Rattle.fx_meaning.specs.Value.{Slots, Stream, applied, Streams, no_streams, more_streams}
+use Rattle.fx_build.specs.Operators.{operator}
 use Rattle.fx_build.specs.Said.{said_in}
-use Rattle.fx_build.specs.Sources.{Stored, source_tables}
+use Rattle.fx_build.specs.Sources.{Stored}
 
 -- ---- ticks
 
@@ -50,109 +36,11 @@ is_source _ = false
 abbrev pub counted : StreamFn → List (List Table) → End (List Table) → End (List Table)
 counted g received made = later (1 + sizes_of received) (made >>= (λ ts. Gives ts (if is_source g then size_of ts else length ts)))
 
--- ---- arguments
-
-abbrev pub no_argument : {A : Type 0} → Place → FaultKind → End A
-no_argument place kind = Faults (fault_at place kind) 0
-
-abbrev pub text_at : Place → Val → End Label
-text_at place (cell (scalar.Text t)) = pure t
-text_at place (cell scalar.Null) = no_argument place NullArgument
-text_at place _ = Stuck
-
-abbrev pub in_time : Place → Option ℤ → End ℤ
-in_time place (Some t) = pure t
-in_time place None = no_argument place TimeRange
-
--- a bound of a range: a time, or a duration from the moment
-abbrev pub bound_at : Place → ℤ → Val → End ℤ
-bound_at place now (cell (scalar.Time t)) = pure t
-bound_at place now (cell scalar.Null) = no_argument place NullArgument
-bound_at place now (span d) = in_time place (span_after now d)
-bound_at place now _ = Stuck
-
--- the moment, as a call of `range` keeps it
-abbrev pub moment_in : Val → End ℤ
-moment_in (cell (scalar.Time t)) = pure t
-moment_in _ = Stuck
-
-abbrev pub moment_of : Slots → End ℤ
-moment_of args = argument (codes "now") args >>= moment_in
-
--- the moment, where no argument is given
-abbrev pub bound_or_now : Place → ℤ → Option Val → End ℤ
-bound_or_now place now None = pure now
-bound_or_now place now (Some v) = bound_at place now v
-
--- ---- operators
-
--- of no input, and of one
-
-abbrev pub of_none : End (List Table) → List (List Table) → End (List Table)
-of_none made [] = made
-of_none made _ = Stuck
-
-abbrev pub of_one : (List Table → End (List Table)) → List (List Table) → End (List Table)
-of_one made (ts ∷ []) = made ts
-of_one made _ = Stuck
-
--- the bucket's tables of the kind
-abbrev pub bucket_tables : Stored → Kind → Place → Label → End (List Table)
-bucket_tables stored kind place bucket = if listed bucket stored.buckets then pure (source_tables kind bucket stored.points) else no_argument place NoBucket
-
-abbrev pub from_bucket : Stored → Kind → Place → Slots → End (List Table)
-from_bucket stored kind place args = do
-  v ← argument (codes "bucket") args
-  bucket ← text_at place v
-  bucket_tables stored kind place bucket
-
--- a record of scalars as a row
-abbrev pub row_in : Val → End Row
-row_in v = fields_in v >>= row_from empty
-
--- one table with an empty key, none without rows
-abbrev pub from_array : Slots → End (List Table)
-from_array args = do
-  vs ← items_of (codes "rows") args
-  rows ← each row_in (val_list vs)
-  pure (table_if (record { entries = [] }) rows)
-
-abbrev pub in_range : Place → Slots → List Table → End (List Table)
-in_range place args tables = do
-  now ← moment_of args
-  v ← argument (codes "start") args
-  start ← bound_at place now v
-  stop ← bound_or_now place now (look (codes "stop") args)
-  ranged start stop tables
-
--- no word but "drop" is known for what becomes of a table without rows
-abbrev pub drops : Given → Bool
-drops w = is_one_of w (codes "onEmpty") (codes "drop") (codes "drop" ∷ [])
-
 module _ (test : Tests) (stored : Stored) where
-  abbrev pub of_wanted_rows : Given → Slots → List Table → ℕ → End (List Table)
-  of_wanted_rows w args tables limit =
-      if drops w then (argument (codes "fn") args >>= (λ f. filtered (row_meaning test f) tables limit)) else Stuck
-
-  abbrev pub of_made_rows : Slots → List Table → ℕ → End (List Table)
-  of_made_rows args tables limit = argument (codes "fn") args >>= (λ f. mapped (row_meaning test f) tables limit)
-
-  -- what an operator makes of the tables of its inputs, with the words that its arguments say. It calls functions of rows
-  -- under the limit. Those that aren't listed come later
-  abbrev pub operator : StreamFn → Place → Given → Slots → ℕ → List (List Table) → End (List Table)
-  operator s.From place w args limit = of_none (from_bucket stored kind.Int place args)
-  operator s.Texts place w args limit = of_none (from_bucket stored kind.Text place args)
-  operator s.Bools place w args limit = of_none (from_bucket stored kind.Bool place args)
-  operator s.ArrayFrom place w args limit = of_none (from_array args)
-  operator s.Range place w args limit = of_one (in_range place args)
-  operator s.Filter place w args limit = of_one (λ tables. of_wanted_rows w args tables limit)
-  operator s.Map place w args limit = of_one (λ tables. of_made_rows args tables limit)
-  operator _ place w args limit = λ received. Stuck
-
   abbrev pub operator_run : StreamFn → Place → Slots → ℕ → List (List Table) → End (List Table)
   operator_run g place args limit received = do
     w ← found (said_in (Some (stream_builtin g)) args)
-    counted g received (operator g place w args limit received)
+    counted g received (operator test stored g place w args limit received)
 
   -- inputs in order, then the operator; of several inputs with a fault the first wins
   abbrev mutual
@@ -174,7 +62,7 @@ module _ (test : Tests) (stored : Stored) where
   unfoldable pub yield_meaning : Stream → ℕ → End (List Table)
   yield_meaning call limit = cut limit (stream_run call limit >>= (λ ts. Gives ts (1 + size_of ts)))
 
--- ---- which operators are listed above
+-- ---- which operators have a meaning so far
 
 abbrev pub is_listed : StreamFn → Bool
 is_listed s.From = true
@@ -184,6 +72,21 @@ is_listed s.ArrayFrom = true
 is_listed s.Range = true
 is_listed s.Filter = true
 is_listed s.Map = true
+is_listed s.Group = true
+is_listed s.Union = true
+is_listed s.Limit = true
+is_listed s.Tail = true
+is_listed s.Keep = true
+is_listed s.DropColumns = true
+is_listed s.Set = true
+is_listed s.Fill = true
+is_listed s.Duplicate = true
+is_listed s.Min = true
+is_listed s.Max = true
+is_listed s.First = true
+is_listed s.Last = true
+is_listed s.Reduce = true
+is_listed s.Rename = true
 is_listed _ = false
 
 -- the stream is made of these alone

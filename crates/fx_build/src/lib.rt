@@ -4,4 +4,4 @@
 
 mod laws;
 
-pub use laws::{expressions_are_sound, runs_are_sound, streams_are_sound};
+pub use laws::{expressions_are_sound, runs_are_sound, streams_are_limited, streams_are_sound};

@@ -1,0 +1,221 @@
+-- What operators make of tables: their arguments, their words, and the tables.
+use Rattle.std.specs.Prelude.{ℕ, ℤ, pos, int_le, Bool, List, [], ◌∷◌, Option, None, Some, codes, if◌then◌else◌}
+use Rattle.std.specs.FinMap.{empty}
+use Rattle.fx_base.specs.Text.{same_text}
+use Rattle.fx_base.specs.declared.fault.FaultKind.{FaultKind}
+use Rattle.fx_base.specs.declared.fault.FaultKind.TheVariants.{BadCount, NoBucket, NullArgument, TimeRange}
+use Rattle.fx_base.specs.declared.place.Place.{Place}
+use Rattle.fx_time.specs.Spans.{span_after}
+use Rattle.fx_value.specs.Ends.{End, Faults, Stuck}
+use Rattle.fx_value.specs.declared.scalar.Kind.{Kind}
+use Rattle.fx_value.specs.declared.scalar.Kind.TheVariants as kind
+use Rattle.fx_value.specs.declared.scalar.Scalar.{Scalar}
+use Rattle.fx_value.specs.declared.scalar.Scalar.TheVariants as scalar
+use Rattle.fx_types.specs.Ground.{listed}
+use Rattle.fx_types.specs.Term.{Label}
+use Rattle.fx_data.specs.declared.table.Table.{Table}
+use Rattle.fx_agg.specs.Aggregate.{aggregated}
+use Rattle.fx_agg.specs.Reduce.{reduced}
+use Rattle.fx_agg.specs.declared.agg.Agg.TheVariants.{First, Last, Max, Min}
+use Rattle.fx_group.specs.Filter.{filtered, table_if}
+use Rattle.fx_group.specs.Group.{grouped_by, grouped_except}
+use Rattle.fx_group.specs.Map.{mapped}
+use Rattle.fx_group.specs.Range.{ranged}
+use Rattle.fx_group.specs.Union.{united}
+use Rattle.fx_shape.specs.Columns.{column_doubled, column_filled, column_set}
+use Rattle.fx_shape.specs.Keep.{columns_dropped, columns_kept}
+use Rattle.fx_shape.specs.Rename.{columns_renamed}
+use Rattle.fx_shape.specs.Part.{limited, tailed}
+use Rattle.fx_schemes.specs.declared.given.LabelWords.{LabelWords}
+use Rattle.fx_schemes.specs.Given.{Given, is_one_of, list_at, text_at as word_at, words_at}
+use Rattle.fx_meaning.specs.declared.stream.StreamFn.{StreamFn}
+use Rattle.fx_meaning.specs.declared.stream.StreamFn.TheVariants as s
+use Rattle.fx_meaning.specs.Ends.{◌>>=◌, fault_at, found, pure}
+use Rattle.fx_meaning.specs.Forms.{argument, cell_of, each, fields_in, items_of, val_list}
+use Rattle.fx_meaning.specs.Meaning.{Tests}
+use Rattle.fx_meaning.specs.Rows.{Row, row_from, row_meaning}
+use Rattle.fx_meaning.specs.Value.{Val, cell, span, Slots, look}
+use Rattle.fx_build.specs.Sources.{Stored, source_tables}
+
+-- ---- arguments
+
+abbrev pub no_argument : {A : Type 0} → Place → FaultKind → End A
+no_argument place kind = Faults (fault_at place kind) 0
+
+abbrev pub text_at : Place → Val → End Label
+text_at place (cell (scalar.Text t)) = pure t
+text_at place (cell scalar.Null) = no_argument place NullArgument
+text_at place _ = Stuck
+
+abbrev pub in_time : Place → Option ℤ → End ℤ
+in_time place (Some t) = pure t
+in_time place None = no_argument place TimeRange
+
+-- a bound of a range: a time, or a duration from the moment
+abbrev pub bound_at : Place → ℤ → Val → End ℤ
+bound_at place now (cell (scalar.Time t)) = pure t
+bound_at place now (cell scalar.Null) = no_argument place NullArgument
+bound_at place now (span d) = in_time place (span_after now d)
+bound_at place now _ = Stuck
+
+-- the moment, as a call of `range` keeps it
+abbrev pub moment_in : Val → End ℤ
+moment_in (cell (scalar.Time t)) = pure t
+moment_in _ = Stuck
+
+abbrev pub moment_of : Slots → End ℤ
+moment_of args = argument (codes "now") args >>= moment_in
+
+-- the moment, where no argument is given
+abbrev pub bound_or_now : Place → ℤ → Option Val → End ℤ
+bound_or_now place now None = pure now
+bound_or_now place now (Some v) = bound_at place now v
+
+-- a number of rows, which isn't negative
+abbrev pub count_at : Place → Val → End ℤ
+count_at place (cell (scalar.Int n)) = if int_le (pos 0) n then pure n else no_argument place BadCount
+count_at place (cell scalar.Null) = no_argument place NullArgument
+count_at place _ = Stuck
+
+abbrev pub count_or_none : Place → Option Val → End ℤ
+count_or_none place None = pure (pos 0)
+count_or_none place (Some v) = count_at place v
+
+-- ---- operators
+
+-- of no input, and of one
+
+abbrev pub of_none : End (List Table) → List (List Table) → End (List Table)
+of_none made [] = made
+of_none made _ = Stuck
+
+abbrev pub of_one : (List Table → End (List Table)) → List (List Table) → End (List Table)
+of_one made (ts ∷ []) = made ts
+of_one made _ = Stuck
+
+-- the bucket's tables of the kind
+abbrev pub bucket_tables : Stored → Kind → Place → Label → End (List Table)
+bucket_tables stored kind place bucket = if listed bucket stored.buckets then pure (source_tables kind bucket stored.points) else no_argument place NoBucket
+
+abbrev pub from_bucket : Stored → Kind → Place → Slots → End (List Table)
+from_bucket stored kind place args = do
+  v ← argument (codes "bucket") args
+  bucket ← text_at place v
+  bucket_tables stored kind place bucket
+
+-- a record of scalars as a row
+abbrev pub row_in : Val → End Row
+row_in v = fields_in v >>= row_from empty
+
+-- one table with an empty key, none without rows
+abbrev pub from_array : Slots → End (List Table)
+from_array args = do
+  vs ← items_of (codes "rows") args
+  rows ← each row_in (val_list vs)
+  pure (table_if (record { entries = [] }) rows)
+
+abbrev pub in_range : Place → Slots → List Table → End (List Table)
+in_range place args tables = do
+  now ← moment_of args
+  v ← argument (codes "start") args
+  start ← bound_at place now v
+  stop ← bound_or_now place now (look (codes "stop") args)
+  ranged start stop tables
+
+-- no word but "drop" is known for what becomes of a table without rows
+abbrev pub drops : Given → Bool
+drops w = is_one_of w (codes "onEmpty") (codes "drop") (codes "drop" ∷ [])
+
+-- the words of `mode`
+abbrev pub grouped_in : Label → List Label → List Table → End (List Table)
+grouped_in mode columns tables =
+    if same_text mode (codes "by") then pure (grouped_by columns tables) else (if same_text mode (codes "except") then pure (grouped_except columns tables) else Stuck)
+
+abbrev pub in_groups : Given → List Table → End (List Table)
+in_groups w tables = do
+  columns ← found (list_at w (codes "columns") (Some []))
+  mode ← found (word_at w (codes "mode") (Some (codes "by")))
+  grouped_in mode columns tables
+
+-- `limit` and `tail`
+abbrev pub of_places : (Place → ℤ → ℤ → List Table → End (List Table)) → Place → Slots → List Table → End (List Table)
+of_places part place args tables = do
+  v ← argument (codes "n") args
+  n ← count_at place v
+  offset ← count_or_none place (look (codes "offset") args)
+  part place n offset tables
+
+-- `keep` and `drop`
+abbrev pub of_columns : (List Label → List Table → List Table) → Given → List Table → End (List Table)
+of_columns made w tables = do
+  columns ← found (list_at w (codes "columns") None)
+  pure (made columns tables)
+
+-- `set` and `fill`, at the word of the column
+abbrev pub with_value : (Label → Scalar → List Table → List Table) → Option Label → Slots → List Table → End (List Table)
+with_value made column args tables = do
+  label ← found column
+  value ← cell_of (codes "value") args
+  pure (made label value tables)
+
+-- what works on one column, at its word
+abbrev pub at_column : (Label → List Table → End (List Table)) → Given → List Table → End (List Table)
+at_column made w tables = do
+  column ← found (word_at w (codes "column") (Some (codes "_value")))
+  made column tables
+
+abbrev pub doubled_in : Given → List Table → End (List Table)
+doubled_in w tables = do
+  column ← found (word_at w (codes "column") None)
+  copy ← found (word_at w (codes "as") None)
+  pure (column_doubled column copy tables)
+
+-- the words of `columns`: olds and news
+abbrev pub renamed_by : Option LabelWords → List Table → End (List Table)
+renamed_by None tables = Stuck
+renamed_by (Some g) tables = pure (columns_renamed g.words g.news tables)
+
+abbrev pub renamed_in : Given → List Table → End (List Table)
+renamed_in w tables = renamed_by (words_at w (codes "columns")) tables
+
+module _ (test : Tests) (stored : Stored) where
+  abbrev pub of_wanted_rows : Given → Slots → List Table → ℕ → End (List Table)
+  of_wanted_rows w args tables limit =
+      if drops w then (argument (codes "fn") args >>= (λ f. filtered (row_meaning test f) tables limit)) else Stuck
+
+  abbrev pub of_made_rows : Slots → List Table → ℕ → End (List Table)
+  of_made_rows args tables limit = argument (codes "fn") args >>= (λ f. mapped (row_meaning test f) tables limit)
+
+  abbrev pub of_folded_rows : Slots → List Table → ℕ → End (List Table)
+  of_folded_rows args tables limit = do
+    v ← argument (codes "identity") args
+    identity ← row_in v
+    f ← argument (codes "fn") args
+    reduced (row_meaning test f) identity tables limit
+
+  -- what an operator makes of the tables of its inputs, with the words that its arguments say. It calls functions of rows
+  -- under the limit. Those that aren't listed come later
+  abbrev pub operator : StreamFn → Place → Given → Slots → ℕ → List (List Table) → End (List Table)
+  operator s.From place w args limit = of_none (from_bucket stored kind.Int place args)
+  operator s.Texts place w args limit = of_none (from_bucket stored kind.Text place args)
+  operator s.Bools place w args limit = of_none (from_bucket stored kind.Bool place args)
+  operator s.ArrayFrom place w args limit = of_none (from_array args)
+  operator s.Range place w args limit = of_one (in_range place args)
+  operator s.Filter place w args limit = of_one (λ tables. of_wanted_rows w args tables limit)
+  operator s.Map place w args limit = of_one (λ tables. of_made_rows args tables limit)
+  operator s.Group place w args limit = of_one (in_groups w)
+  operator s.Union place w args limit = λ received. pure (united received)
+  operator s.Limit place w args limit = of_one (of_places limited place args)
+  operator s.Tail place w args limit = of_one (of_places tailed place args)
+  operator s.Keep place w args limit = of_one (of_columns columns_kept w)
+  operator s.DropColumns place w args limit = of_one (of_columns columns_dropped w)
+  operator s.Set place w args limit = of_one (with_value column_set (word_at w (codes "key") None) args)
+  operator s.Fill place w args limit = of_one (with_value column_filled (word_at w (codes "column") (Some (codes "_value"))) args)
+  operator s.Duplicate place w args limit = of_one (doubled_in w)
+  operator s.Min place w args limit = of_one (at_column (aggregated place Min) w)
+  operator s.Max place w args limit = of_one (at_column (aggregated place Max) w)
+  operator s.First place w args limit = of_one (at_column (aggregated place First) w)
+  operator s.Last place w args limit = of_one (at_column (aggregated place Last) w)
+  operator s.Reduce place w args limit = of_one (λ tables. of_folded_rows args tables limit)
+  operator s.Rename place w args limit = of_one (renamed_in w)
+  operator _ place w args limit = λ received. Stuck

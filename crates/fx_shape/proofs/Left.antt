@@ -1,0 +1,109 @@
+-- Tables without some of their columns.
+use Rattle.std.proofs.Common.{◌≡◌, Bool, true, false, not, ◌||◌, List, [], ◌∷◌, map, refl, sym, ap, subst, ◌∙◌}
+use Rattle.std.specs.Prelude.{cond, Some, None, IsTrue}
+use Rattle.std.specs.declared.cmp.Ordering.TheVariants.{Less}
+use Rattle.std.specs.Cmp.{Equal-is, tied_itself}
+use Rattle.std.specs.Cmp.Lexicographic.{nat_list_cmp_total, same_text as equal_text}
+use Rattle.std.specs.FinMap as fin
+use Rattle.std.specs.FinMap.{FinMap}
+use Rattle.std.specs.List.{AllByRecursion, filter}
+use Rattle.std.specs.List.Sorted.{IsStrictlySortedBy}
+use Rattle.std.specs.Ordering.{eq_by_cmp, is_eq}
+use Rattle.std.proofs.lemmas.Cmp.{nat_list_eq_equiv}
+use Rattle.fx_base.specs.Text.{same_text, text_cmp}
+use Rattle.fx_value.specs.Change.{all_changed}
+use Rattle.fx_value.specs.declared.change.Change.TheVariants.{Remove}
+use Rattle.fx_value.specs.declared.scalar.Scalar.{Scalar}
+use Rattle.fx_value.proofs.Rows.{text_same}
+use Rattle.fx_data.specs.declared.key.KeyEntry.{KeyEntry}
+use Rattle.fx_data.specs.declared.table.Table.{Table}
+use Rattle.fx_data.specs.Gathered.{grouped, gathered, table_of}
+use Rattle.fx_data.specs.Key.{key_cmp}
+use Rattle.fx_data.specs.Table.{HasKey, IsLawfulTable}
+use Rattle.fx_group.specs.Answer.{Row}
+use Rattle.fx_group.specs.Group.{is_listed}
+use Rattle.fx_shape.specs.Columns.{Label}
+use Rattle.fx_shape.specs.Keep.{table_left, columns_left, columns_dropped}
+
+-- labels that tie are the same
+
+tied : (a b : Label) → eq_by_cmp text_cmp a b ≡ same_text a b
+tied a b = by (eq_by_cmp text_cmp a b) (same_text a b) refl refl
+  where
+    by : (c d : Bool) → c ≡ eq_by_cmp text_cmp a b → d ≡ same_text a b → c ≡ d
+    by true true e k = refl
+    by false false e k = refl
+    by true false e k = sym (k ∙ subst (λ z. same_text a z ≡ true) (text_same a b ((Equal-is _).0 (sym e))) (nat_list_eq_equiv.refl a))
+    by false true e k = e ∙ subst (λ z. eq_by_cmp text_cmp a z ≡ true) (equal_text a b k) (ap is_eq (tied_itself nat_list_cmp_total a))
+
+get_left : (stays : Label → Bool) (row : Row) (q : Label) → fin.get (fin.retain_keys row stays) q ≡ cond (stays q) (fin.get row q) None
+get_left stays row q = fin.get-retain_keys row stays q (λ x tie. ap stays (sym (text_same q x tie)))
+
+-- ---- rows
+
+without_step : (c d : Bool) (o : Rattle.std.specs.Prelude.Option Scalar) → cond (not d) (cond c None o) None ≡ cond (not (c || d)) o None
+without_step true true o = refl
+without_step true false o = refl
+without_step false d o = refl
+
+get_without : (columns : List Label) (row : Row) (q : Label) → fin.get (all_changed (map Remove columns) row) q ≡ cond (not (is_listed columns q)) (fin.get row q) None
+get_without [] row q = refl
+get_without (c ∷ columns) row q =
+    get_without columns (fin.remove row c) q
+    ∙ ap (λ o. cond (not (is_listed columns q)) o None) (fin.get-remove nat_list_cmp_total row c q ∙ ap (λ b. cond b None (fin.get row q)) (tied q c))
+    ∙ without_step (same_text q c) (is_listed columns q) (fin.get row q)
+
+row_without : (columns : List Label) (row : Row) → all_changed (map Remove columns) row ≡ fin.retain_keys row (λ label. not (is_listed columns label))
+row_without columns row =
+    fin.same_map nat_list_cmp_total text_same _ _ (λ q. get_without columns row q ∙ sym (get_left (λ label. not (is_listed columns label)) row q))
+
+pub rows_without : (columns : List Label) (rows : List Row) → map (all_changed (map Remove columns)) rows ≡ map (λ row. fin.retain_keys row (λ label. not (is_listed columns label))) rows
+rows_without columns [] = refl
+rows_without columns (row ∷ rows) = (λ i. row_without columns row i ∷ rows_without columns rows i)
+
+-- ---- lawful tables
+
+module _ (stays : Label → Bool) where
+  above_left : (l : Label) (es : List KeyEntry) → AllByRecursion (λ q. text_cmp l q ≡ Less) (map (λ e. e.label) es)
+      → AllByRecursion (λ q. text_cmp l q ≡ Less) (map (λ e. e.label) (filter (λ (e : KeyEntry). stays e.label) es))
+  above_left l [] h = tt
+  above_left l (e ∷ es) h =
+      elim (stays e.label) as (λ b. AllByRecursion (λ q. text_cmp l q ≡ Less) (map (λ e. e.label) (cond b (e ∷ filter (λ (e : KeyEntry). stays e.label) es) (filter (λ (e : KeyEntry). stays e.label) es)))) [
+        | true ↦ (h.0, above_left l es h.1)
+        | false ↦ above_left l es h.1
+      ]
+
+  rising_left : (es : List KeyEntry) → IsStrictlySortedBy text_cmp (map (λ e. e.label) es) → IsStrictlySortedBy text_cmp (map (λ e. e.label) (filter (λ (e : KeyEntry). stays e.label) es))
+  unfolding IsStrictlySortedBy
+  rising_left [] h = tt
+  rising_left (e ∷ es) h =
+      elim (stays e.label) as (λ b. IsStrictlySortedBy text_cmp (map (λ e. e.label) (cond b (e ∷ filter (λ (e : KeyEntry). stays e.label) es) (filter (λ (e : KeyEntry). stays e.label) es)))) [
+        | true ↦ (above_left e.label es h.0, rising_left es h.1)
+        | false ↦ rising_left es h.1
+      ]
+
+  columns_stay : (row : Row) (es : List KeyEntry) → HasKey es row → HasKey (filter (λ (e : KeyEntry). stays e.label) es) (fin.retain_keys row stays)
+  columns_stay row [] h = tt
+  columns_stay row (e ∷ es) h = step (stays e.label) refl (columns_stay row es h.1)
+    where
+      step : (b : Bool) → b ≡ stays e.label → HasKey (filter (λ (e : KeyEntry). stays e.label) es) (fin.retain_keys row stays)
+          → HasKey (cond b (e ∷ filter (λ (e : KeyEntry). stays e.label) es) (filter (λ (e : KeyEntry). stays e.label) es)) (fin.retain_keys row stays)
+      step true is rest = (get_left stays row e.label ∙ ap (λ c. cond c (fin.get row e.label) None) (sym is) ∙ h.0, rest)
+      step false is rest = rest
+
+  rows_stay : (es : List KeyEntry) (rows : List Row) → AllByRecursion (HasKey es) rows → AllByRecursion (HasKey (filter (λ (e : KeyEntry). stays e.label) es)) (map (λ row. fin.retain_keys row stays) rows)
+  rows_stay es [] h = tt
+  rows_stay es (row ∷ rows) h = (columns_stay row es h.0, rows_stay es rows h.1)
+
+  pub left_lawful : (t : Table) → IsLawfulTable t → IsLawfulTable (table_left stays t)
+  left_lawful t h = record { rising = rising_left t.key.entries h.rising; columns = rows_stay t.key.entries t.rows h.columns }
+
+  -- runs of what is left of the tables are its tables
+  pub left_is : (tables : List Table) (runs : FinMap key_cmp (List Row)) → runs ≡ grouped (map (table_left stays) tables) → map table_of (fin.entries runs) ≡ columns_left stays tables
+  unfolding gathered
+  left_is tables runs is = ap (λ (groups : FinMap key_cmp (List Row)). map table_of (fin.entries groups)) is
+
+pub dropped_is : (columns : List Label) (tables : List Table) (runs : FinMap key_cmp (List Row)) → runs ≡ grouped (map (table_left (λ label. not (is_listed columns label))) tables)
+    → map table_of (fin.entries runs) ≡ columns_dropped columns tables
+unfolding columns_dropped
+dropped_is columns tables runs is = left_is (λ label. not (is_listed columns label)) tables runs is
