@@ -1,4 +1,5 @@
 pub mod ApartLaws
+pub mod ArmLaws
 pub mod AskingLaws
 pub mod ByLineLaws
 pub mod CallLaws
@@ -10,6 +11,7 @@ pub mod InfersLaws
 pub mod KeptLaws
 pub mod ListLaws
 pub mod RuleLaws
+pub mod ScopeLaws
 pub mod ScriptLaws
 pub mod TypingLaws
 pub mod UseLaws
