@@ -10,6 +10,7 @@ pub mod FreshLaws
 pub mod InfersLaws
 pub mod KeptLaws
 pub mod ListLaws
+pub mod MoreArms
 pub mod RuleLaws
 pub mod ScopeLaws
 pub mod ScriptLaws
