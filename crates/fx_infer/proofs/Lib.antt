@@ -1,4 +1,5 @@
 pub mod ApartLaws
+pub mod ArmLaws
 pub mod AskingLaws
 pub mod ByLineLaws
 pub mod CallLaws
@@ -9,7 +10,9 @@ pub mod FreshLaws
 pub mod InfersLaws
 pub mod KeptLaws
 pub mod ListLaws
+pub mod MoreArms
 pub mod RuleLaws
+pub mod ScopeLaws
 pub mod ScriptLaws
 pub mod TypingLaws
 pub mod UseLaws

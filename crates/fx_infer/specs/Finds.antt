@@ -8,7 +8,7 @@ use Rattle.fx_unify.specs.declared.bindings.Bindings.{Bindings}
 use Rattle.fx_infer.specs.declared.ask.Inferred as found
 use Rattle.fx_infer.specs.declared.lines.LineTy as lines
 use Rattle.fx_infer.specs.declared.lines.Lined as lined
-use Rattle.fx_infer.specs.Infers.{Infers, HasNone}
+use Rattle.fx_infer.specs.Infers.{Infers, Asks, HasNone}
 
 -- a type
 abbrev pub Finds : (Solution → Ground → Type 0) → Bindings → Option found.Inferred → Type 0
@@ -29,3 +29,8 @@ line_under s x =
 abbrev pub FindsLine : (Solution → Line → Type 0) → Bindings → Option lined.Lined → Type 0
 FindsLine T old None = HasNone T old
 FindsLine T old (Some r) = Infers T old r.bindings (λ s. line_under s r.line)
+
+-- nothing but bindings
+abbrev pub FindsThat : (Solution → Type 0) → Bindings → Option Bindings → Type 0
+FindsThat C old None = HasNone {R = Unit {0}} (λ s u. C s) old
+FindsThat C old (Some b) = Asks C old b

@@ -5,6 +5,7 @@ pub mod Environment
 pub mod Finds
 pub mod Infers
 pub mod Lists
+pub mod Names
 pub mod Native
 pub mod Operators
 pub mod Parameters

@@ -2,12 +2,14 @@
 
 ghost use Rattle.std.specs.Prelude.{◌≡◌, IfOk};
 ghost use Rattle.fx_types.specs.Instance.{Solution, ground};
+ghost use Rattle.fx_types.specs.Ground.{g_array};
 ghost use Rattle.fx_types.specs.Kinds.{IsAmong};
 ghost use Rattle.fx_types.specs.Shape.{term};
 ghost use Rattle.fx_types.specs.Size.{IsType};
 ghost use Rattle.fx_unify.specs.Solutions.{next_of};
 ghost use Rattle.fx_infer.specs.Infers.{Infers, Asks, IsBelow};
 
+use crate::terms::array_of;
 use fx_base::{List, Memory};
 use fx_types::Ty;
 use fx_unify::Bindings;
@@ -28,6 +30,17 @@ pub(crate) fn any_type(alloc: Global, bindings: Bindings) -> Result<Inferred, Me
     let number = unused(&bindings)?;
     let bindings = bindings.fits_later(alloc, &Ty::Var(number))?;
     let ty = Ty::Var(number);
+    Ok(Inferred { bindings, ty })
+}
+
+/// A variable for the elements of an array that is a type.
+pub(crate) fn any_array(alloc: Global, bindings: Bindings) -> Result<Inferred, Memory>
+    ensures { IfOk result (λ r. Infers (λ s t. IsType t × IsType (g_array t)) bindings r.bindings (λ s. ground s (term r.ty))) }
+{
+    let any = any_type(alloc, bindings)?;
+    let whole = array_of(alloc, any.ty.copy(alloc)?)?;
+    let bindings = any.bindings.fits_later(alloc, &whole)?;
+    let ty = any.ty;
     Ok(Inferred { bindings, ty })
 }
 

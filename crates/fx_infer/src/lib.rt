@@ -3,9 +3,13 @@
 
 mod ask;
 mod calls;
+mod infer;
 mod kept;
 mod lines;
+mod literals;
 mod operators;
 mod rules;
+mod scope;
+mod stop;
 mod terms;
 mod uses;

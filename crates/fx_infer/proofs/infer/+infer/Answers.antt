@@ -1,0 +1,153 @@
+use Rattle.std.proofs.Common.{FitsSigned, IfOk, ap, arith, map, rules, subst, sym, ◌∙◌}
+use Rattle.std.specs.Int.{w64}
+use Rattle.std.proofs.lemmas.Int.{to_z-of_z}
+use Rattle.fx_ast.specs.Shape.{shape_of, tree_of, trees_of}
+use Rattle.fx_ast.specs.Tree.{array, if_then, index, int, paren, pattern, prefix, span, time}
+use Rattle.fx_ast.proofs.ShapeLaws.{shape_array, shape_if, shape_index, shape_int, shape_paren, shape_pattern, shape_prefix, shape_span, shape_time}
+use Rattle.fx_types.specs.Instance.{ground}
+use Rattle.fx_types.specs.Shape.{term}
+use Rattle.fx_infer.specs.Finds.{Finds}
+use Rattle.fx_infer.specs.Infers.{Infers}
+use Rattle.fx_infer.specs.Names.{TypeOf, ShapeOf}
+use Rattle.fx_infer.specs.Operators.{Prefixed}
+use Rattle.fx_infer.specs.Rules.{HasElement}
+use Rattle.fx_infer.proofs.ArmLaws.{at_node, type_reads, one_part, two_parts, prefix_is, index_is, names_later}
+use Rattle.fx_types.specs.declared.term.Ty.TheVariants as ty
+use Rattle.fx_types.proofs.ShapeLaws.{term_bool}
+use Rattle.fx_infer.specs.Finds.{FindsThat}
+use Rattle.fx_infer.proofs.MoreArms.{typed_asked, if_found, no_test, no_branch, no_other, if_is, no_item, items_grow, items_all, array_found, no_array, at_later, below_more}
+use Rattle.fx_infer.proofs.ScopeLaws.{names_below}
+use Rattle.fx_infer.proofs.infer.+infer.Goals as goal
+
+pub infer-returns-in-Int : goal.infer-returns-in-Int
+infer-returns-in-Int t c =
+    let fits : FitsSigned w64 c.in-Int.value = search rules in
+    subst (λ T. Infers T c.args.bindings c.int_type.result.bindings (λ s. ground s (term c.int_type.result.ty)))
+    (at_node c.args.names.now c.args.expr.now c.get.result.now (int c.in-Int.value) c.get.ensures (ap shape_of c.in-Int.is ∙ shape_int c.in-Int.value)) (simp to_z-of_z at c.int_type.ensures)
+
+pub infer-returns-in-Time : goal.infer-returns-in-Time
+infer-returns-in-Time t c =
+    let fits : FitsSigned w64 c.in-Time.value = search rules in
+    subst (λ T. Infers T c.args.bindings c.time_type.result.bindings (λ s. ground s (term c.time_type.result.ty)))
+    (at_node c.args.names.now c.args.expr.now c.get.result.now (time c.in-Time.value) c.get.ensures (ap shape_of c.in-Time.is ∙ shape_time c.in-Time.value)) (simp to_z-of_z at c.time_type.ensures)
+
+pub infer-returns-in-Span : goal.infer-returns-in-Span
+infer-returns-in-Span t c =
+    let months : FitsSigned w64 c.in-Span.value.months = search rules in
+    let nanos : FitsSigned w64 c.in-Span.value.nanos = search rules in
+    subst (λ T. Infers T c.args.bindings c.span_type.result.bindings (λ s. ground s (term c.span_type.result.ty)))
+    (at_node c.args.names.now c.args.expr.now c.get.result.now (span c.in-Span.value) c.get.ensures (ap shape_of c.in-Span.is ∙ shape_span c.in-Span.value)) (simp to_z-of_z at c.span_type.ensures)
+
+pub infer-returns-in-Pattern : goal.infer-returns-in-Pattern
+infer-returns-in-Pattern t c =
+    subst (λ T. Infers T c.args.bindings c.pattern_type.result.bindings (λ s. ground s (term c.pattern_type.result.ty)))
+    (at_node c.args.names.now c.args.expr.now c.get.result.now (pattern c.in-Pattern.field-0) c.get.ensures (ap shape_of c.in-Pattern.is ∙ shape_pattern c.in-Pattern.field-0)) c.pattern_type.ensures
+
+pub infer-returns-in-Paren : goal.infer-returns-in-Paren
+infer-returns-in-Paren t c =
+    subst (λ T. IfOk c.infer.result (Finds T c.args.bindings)) (at_node c.args.names.now c.args.expr.now c.get.result.now (paren (tree_of c.in-Paren.inner)) c.get.ensures (ap shape_of c.in-Paren.is ∙ shape_paren c.in-Paren.inner)) c.infer.ensures
+
+pub infer-returns-in-Prefix : goal.infer-returns-in-Prefix
+infer-returns-in-Prefix t c =
+    subst (λ T. IfOk c.infer_prefix.result (Finds T c.args.bindings))
+    (at_node c.args.names.now c.args.expr.now c.get.result.now (prefix c.in-Prefix.sign (tree_of c.in-Prefix.of)) c.get.ensures (ap shape_of c.in-Prefix.is ∙ shape_prefix c.in-Prefix.sign c.in-Prefix.of)) c.infer_prefix.ensures
+
+pub infer-returns-in-Index : goal.infer-returns-in-Index
+infer-returns-in-Index t c =
+    subst (λ T. IfOk c.infer_index.result (Finds T c.args.bindings))
+    (at_node c.args.names.now c.args.expr.now c.get.result.now (index (tree_of c.in-Index.of) (tree_of c.in-Index.at)) c.get.ensures (ap shape_of c.in-Index.is ∙ shape_index c.in-Index.of c.in-Index.at)) c.infer_index.ensures
+
+pub infer_prefix-returns-in_ok-prefixed-in-Some : goal.infer_prefix-returns-in_ok-prefixed-in-Some
+infer_prefix-returns-in_ok-prefixed-in-Some t c =
+    one_part (TypeOf c.args.names.now c.args.of.now) (Prefixed c.args.sign) (ShapeOf c.args.names.now (prefix c.args.sign (tree_of c.args.of.now))) c.args.bindings (prefix_is c.args.sign c.args.names.now c.args.of.now)
+    c.in-Some.found.bindings c.in_ok-prefixed-in-Some.field-0.bindings (λ s. ground s (term c.in-Some.found.ty)) _
+    (subst (Finds (TypeOf c.args.names.now c.args.of.now) c.args.bindings) c.in-Some.is c.in_ok-found.ensures) c.in_ok-prefixed-in-Some.ensures
+
+pub infer_index-infer-requires-2 : goal.infer_index-infer-requires-2
+infer_index-infer-requires-2 t c = (
+  omega arith,
+  names_later (TypeOf c.args.names.now c.args.of.now) c.args.bindings c.in-Some.found.bindings (λ s. ground s (term c.in-Some.found.ty)) c.args.names.now
+      (subst (Finds (TypeOf c.args.names.now c.args.of.now) c.args.bindings) c.in-Some.is c.in_ok-found.ensures) c.requires,
+)
+
+pub infer_index-returns-in-Some-2 : goal.infer_index-returns-in-Some-2
+infer_index-returns-in-Some-2 t c =
+    two_parts (TypeOf c.args.names.now c.args.of.now) (TypeOf c.args.names.now c.args.at.now) HasElement (ShapeOf c.args.names.now (index (tree_of c.args.of.now) (tree_of c.args.at.now))) c.args.bindings
+    (type_reads _ c.args.names.now c.args.at.now c.requires) (index_is c.args.names.now c.args.of.now c.args.at.now)
+    c.in-Some.found.bindings c.in-Some-2.place.bindings c.in_ok-element_of-in-Some-2.field-0.bindings (λ s. ground s (term c.in-Some.found.ty)) (λ s. ground s (term c.in-Some-2.place.ty)) _
+    (subst (Finds (TypeOf c.args.names.now c.args.of.now) c.args.bindings) c.in-Some.is c.in_ok-found.ensures)
+    (subst (Finds (TypeOf c.args.names.now c.args.at.now) c.in-Some.found.bindings) c.in-Some-2.is c.in_ok-place.ensures) c.in_ok-element_of-in-Some-2.ensures
+
+pub infer-returns-in-If : goal.infer-returns-in-If
+infer-returns-in-If t c =
+    subst (λ T. IfOk c.infer_if.result (Finds T c.args.bindings))
+    (at_node c.args.names.now c.args.expr.now c.get.result.now (if_then (tree_of c.in-If.test) (tree_of c.in-If.yes) (tree_of c.in-If.no)) c.get.ensures (ap shape_of c.in-If.is ∙ shape_if c.in-If.test c.in-If.yes c.in-If.no)) c.infer_if.ensures
+
+pub infer-returns-in-Array : goal.infer-returns-in-Array
+infer-returns-in-Array t c =
+    subst (λ T. IfOk c.infer_array.result (Finds T c.args.bindings))
+    (ap (λ es. ShapeOf c.args.names.now (array (trees_of (map tree_of es)))) c.as_slice.ensures
+    ∙ at_node c.args.names.now c.args.expr.now c.get.result.now (array (trees_of (map tree_of c.in-Array.items))) c.get.ensures (ap shape_of c.in-Array.is ∙ shape_array c.in-Array.items)) c.infer_array.ensures
+
+pub typed-returns-in_ok-equal-in-Some : goal.typed-returns-in_ok-equal-in-Some
+typed-returns-in_ok-equal-in-Some t c =
+    typed_asked (TypeOf c.args.names.now c.args.expr.now) c.args.bindings c.in-Some.found.bindings c.in_ok-equal-in-Some.field-0 (λ s. ground s (term c.in-Some.found.ty)) (term c.args.wanted.now) c.requires.wanted
+    (subst (Finds (TypeOf c.args.names.now c.args.expr.now) c.args.bindings) c.in-Some.is c.in_ok-found.ensures) c.in_ok-equal-in-Some.ensures
+
+pub infer_if-typed-requires : goal.infer_if-typed-requires
+infer_if-typed-requires t c = (omega arith, (c.requires, λ s q agree. ap (ground s) term_bool ∙ sym (ap (ground q) term_bool)))
+
+pub infer_if-returns-in-None : goal.infer_if-returns-in-None
+infer_if-returns-in-None t c =
+    no_test (λ s. TypeOf c.args.names.now c.args.test.now s (ground s (term ty.Bool))) (TypeOf c.args.names.now c.args.yes.now) (TypeOf c.args.names.now c.args.no.now) (ShapeOf c.args.names.now (if_then (tree_of c.args.test.now) (tree_of c.args.yes.now) (tree_of c.args.no.now))) c.args.bindings
+    (type_reads _ c.args.names.now c.args.yes.now c.requires) (type_reads _ c.args.names.now c.args.no.now c.requires) (if_is c.args.names.now c.args.test.now c.args.yes.now c.args.no.now (term ty.Bool) (λ s. ap (ground s) term_bool))
+    (subst (FindsThat (λ s. TypeOf c.args.names.now c.args.test.now s (ground s (term ty.Bool))) c.args.bindings) c.in-None.is c.in_ok-tested.ensures)
+
+pub infer_if-returns-in-None-2 : goal.infer_if-returns-in-None-2
+infer_if-returns-in-None-2 t c =
+    no_branch (λ s. TypeOf c.args.names.now c.args.test.now s (ground s (term ty.Bool))) (TypeOf c.args.names.now c.args.yes.now) (TypeOf c.args.names.now c.args.no.now) (ShapeOf c.args.names.now (if_then (tree_of c.args.test.now) (tree_of c.args.yes.now) (tree_of c.args.no.now))) c.args.bindings
+    (type_reads _ c.args.names.now c.args.yes.now c.requires) (type_reads _ c.args.names.now c.args.no.now c.requires) (if_is c.args.names.now c.args.test.now c.args.yes.now c.args.no.now (term ty.Bool) (λ s. ap (ground s) term_bool))
+    c.in-Some.tested (subst (FindsThat (λ s. TypeOf c.args.names.now c.args.test.now s (ground s (term ty.Bool))) c.args.bindings) c.in-Some.is c.in_ok-tested.ensures)
+    (subst (Finds (TypeOf c.args.names.now c.args.yes.now) c.in-Some.tested) c.in-None-2.is c.in_ok-found.ensures)
+
+pub infer_if-returns-in-Some-3 : goal.infer_if-returns-in-Some-3
+infer_if-returns-in-Some-3 t c =
+    if_found (λ s. TypeOf c.args.names.now c.args.test.now s (ground s (term ty.Bool))) (TypeOf c.args.names.now c.args.yes.now) (TypeOf c.args.names.now c.args.no.now) (ShapeOf c.args.names.now (if_then (tree_of c.args.test.now) (tree_of c.args.yes.now) (tree_of c.args.no.now))) c.args.bindings
+    (type_reads _ c.args.names.now c.args.yes.now c.requires) (type_reads _ c.args.names.now c.args.no.now c.requires) (if_is c.args.names.now c.args.test.now c.args.yes.now c.args.no.now (term ty.Bool) (λ s. ap (ground s) term_bool))
+    c.in-Some.tested c.in-Some-2.found.bindings c.in-Some-3.bindings (λ s. ground s (term c.in-Some-2.found.ty)) (subst (FindsThat (λ s. TypeOf c.args.names.now c.args.test.now s (ground s (term ty.Bool))) c.args.bindings) c.in-Some.is c.in_ok-tested.ensures)
+    (subst (Finds (TypeOf c.args.names.now c.args.yes.now) c.in-Some.tested) c.in-Some-2.is c.in_ok-found.ensures)
+    (subst (FindsThat (λ s. TypeOf c.args.names.now c.args.no.now s (ground s (term c.in-Some-2.found.ty))) c.in-Some-2.found.bindings) c.in-Some-3.is c.in_ok-bindings.ensures)
+
+pub infer_if-returns-in-None-3 : goal.infer_if-returns-in-None-3
+infer_if-returns-in-None-3 t c =
+    no_other (λ s. TypeOf c.args.names.now c.args.test.now s (ground s (term ty.Bool))) (TypeOf c.args.names.now c.args.yes.now) (TypeOf c.args.names.now c.args.no.now) (ShapeOf c.args.names.now (if_then (tree_of c.args.test.now) (tree_of c.args.yes.now) (tree_of c.args.no.now))) c.args.bindings
+    (type_reads _ c.args.names.now c.args.yes.now c.requires) (type_reads _ c.args.names.now c.args.no.now c.requires) (if_is c.args.names.now c.args.test.now c.args.yes.now c.args.no.now (term ty.Bool) (λ s. ap (ground s) term_bool))
+    c.in-Some.tested c.in-Some-2.found.bindings (λ s. ground s (term c.in-Some-2.found.ty)) (subst (FindsThat (λ s. TypeOf c.args.names.now c.args.test.now s (ground s (term ty.Bool))) c.args.bindings) c.in-Some.is c.in_ok-tested.ensures)
+    (subst (Finds (TypeOf c.args.names.now c.args.yes.now) c.in-Some.tested) c.in-Some-2.is c.in_ok-found.ensures)
+    (subst (FindsThat (λ s. TypeOf c.args.names.now c.args.no.now s (ground s (term c.in-Some-2.found.ty))) c.in-Some-2.found.bindings) c.in-None-3.is c.in_ok-bindings.ensures)
+
+pub infer_array-typed-requires : goal.infer_array-typed-requires
+infer_array-typed-requires t c = (
+  omega arith,
+  (names_below _ _ c.args.names.now (at_later _ _ _ c.in_ok-element.ensures.more c.loop-item.invariant.more) c.requires, below_more _ _ (term c.in_ok-element.element.ty) c.loop-item.invariant.more c.in_ok-element.ensures.below),
+)
+
+pub infer_array-returns-in-None : goal.infer_array-returns-in-None
+infer_array-returns-in-None t c =
+    no_array c.args.names.now c.args.items.now c.args.bindings c.in_ok-element.element.bindings (λ s. ground s (term c.in_ok-element.element.ty)) c.requires c.in_ok-element.ensures
+    (no_item c.args.names.now c.args.items.now c.in_ok-element.element.bindings (term c.in_ok-element.element.ty) (names_below _ _ c.args.names.now c.in_ok-element.ensures.more c.requires) c.in_ok-element.ensures.below
+    c.loop-item.asked c.loop-item.item-index c.item-item.result c.loop-item-test.true c.item-item.is c.loop-item.invariant
+    (subst (FindsThat (λ s. TypeOf c.args.names.now c.item-item.result s (ground s (term c.in_ok-element.element.ty))) c.loop-item.asked) c.in-None.is c.in_ok-bindings.ensures))
+
+pub infer_array-loop-item-preserved : goal.infer_array-loop-item-preserved
+infer_array-loop-item-preserved t c =
+    items_grow c.args.names.now c.args.items.now c.in_ok-element.element.bindings (term c.in_ok-element.element.ty) (names_below _ _ c.args.names.now c.in_ok-element.ensures.more c.requires) c.in_ok-element.ensures.below
+    c.loop-item.asked c.in-Some.bindings c.loop-item.item-index c.item-item.result c.loop-item-test.true c.item-item.is c.loop-item.invariant
+    (subst (FindsThat (λ s. TypeOf c.args.names.now c.item-item.result s (ground s (term c.in_ok-element.element.ty))) c.loop-item.asked) c.in-Some.is c.in_ok-bindings.ensures)
+
+pub infer_array-returns : goal.infer_array-returns
+infer_array-returns t c =
+    subst (λ u. Infers (ShapeOf c.args.names.now (array (trees_of (map tree_of c.args.items.now)))) c.args.bindings c.loop-item.asked (λ s. ground s u)) (sym c.in_ok-ty.ensures)
+    (array_found c.args.names.now c.args.items.now c.args.bindings c.in_ok-element.element.bindings (λ s. ground s (term c.in_ok-element.element.ty)) c.requires c.in_ok-element.ensures c.loop-item.asked
+    (items_all c.args.names.now c.args.items.now c.in_ok-element.element.bindings (term c.in_ok-element.element.ty) (names_below _ _ c.args.names.now c.in_ok-element.ensures.more c.requires) c.in_ok-element.ensures.below
+    c.loop-item.asked c.loop-item.item-index c.loop-item-test.false c.loop-item.invariant))

@@ -1,0 +1,174 @@
+//! Inference of expressions. What is inferred goes down the tree, and at a name to the expression that was assigned,
+//! in the scope of the names before it; each step down takes one from `room`.
+
+ghost use Rattle.std.specs.Prelude.{IfOk, map};
+ghost use Rattle.fx_ast.specs.Shape.{tree_of, trees_of};
+ghost use Rattle.fx_ast.specs.Tree.{array, prefix, index, if_then};
+ghost use Rattle.fx_types.specs.Instance.{ground};
+ghost use Rattle.fx_types.specs.Shape.{term};
+ghost use Rattle.fx_unify.specs.Solutions.{next_of};
+ghost use Rattle.fx_infer.specs.Infers.{IsBelow};
+ghost use Rattle.fx_infer.specs.Finds.{Finds, FindsThat};
+ghost use Rattle.fx_infer.specs.Names.{NamesBelow, TypeOf, ShapeOf};
+
+use crate::ask::{Inferred, any_array, equal};
+use crate::literals::{int_type, pattern_type, span_type, time_type};
+use crate::operators::prefixed;
+use crate::rules::element_of;
+use crate::scope::Name;
+use crate::stop::Stop;
+use crate::terms::array_of;
+use fx_ast::{Expr, Node, Prefix};
+use fx_types::Ty;
+use fx_unify::Bindings;
+use std::alloc::Global;
+
+/// A type of the expression, None where it has none.
+#[cycle(infer)]
+pub(crate) fn infer<'a>(
+    alloc: Global,
+    names: &[Name<'a>],
+    bindings: Bindings,
+    expr: &'a Expr,
+    room: u32,
+) -> Result<Option<Inferred>, Stop>
+    requires { NamesBelow (next_of bindings) names.now }
+    ensures { IfOk result (Finds (TypeOf names.now expr.now) bindings) }
+{
+    if room == 0 {
+        return Err(Stop::Memory);
+    }
+    let room = room - 1;
+    match expr.node.get() {
+        Node::Int(value) => Ok(Some(int_type(bindings, *value))),
+        Node::Time(value) => Ok(Some(time_type(bindings, *value))),
+        Node::Span(value) => Ok(Some(span_type(bindings, value.months, value.nanos))),
+        Node::Pattern(_) => Ok(Some(pattern_type(bindings))),
+        Node::Paren(inner) => infer(alloc, names, bindings, inner, room),
+        Node::Prefix { sign, of } => infer_prefix(alloc, names, bindings, *sign, of, room),
+        Node::Index { of, at } => infer_index(alloc, names, bindings, of, at, room),
+        Node::If { test, yes, no } => infer_if(alloc, names, bindings, test, yes, no, room),
+        Node::Array(items) => infer_array(alloc, names, bindings, items.as_slice(), room),
+        _ => Err(Stop::NotYet),
+    }
+}
+
+/// A type of the operator before the operand.
+#[cycle(infer)]
+fn infer_prefix<'a>(
+    alloc: Global,
+    names: &[Name<'a>],
+    bindings: Bindings,
+    sign: Prefix,
+    of: &'a Expr,
+    room: u32,
+) -> Result<Option<Inferred>, Stop>
+    requires { NamesBelow (next_of bindings) names.now }
+    ensures { IfOk result (Finds (ShapeOf names.now (prefix sign (tree_of of.now))) bindings) }
+{
+    match infer(alloc, names, bindings, of, room)? {
+        Some(found) => Ok(Some(prefixed(alloc, found.bindings, sign, &found.ty)?)),
+        None => Ok(None),
+    }
+}
+
+/// A type of the element at the place.
+#[cycle(infer)]
+fn infer_index<'a>(
+    alloc: Global,
+    names: &[Name<'a>],
+    bindings: Bindings,
+    of: &'a Expr,
+    at: &'a Expr,
+    room: u32,
+) -> Result<Option<Inferred>, Stop>
+    requires { NamesBelow (next_of bindings) names.now }
+    ensures { IfOk result (Finds (ShapeOf names.now (index (tree_of of.now) (tree_of at.now))) bindings) }
+{
+    let whole = match infer(alloc, names, bindings, of, room)? {
+        Some(found) => found,
+        None => return Ok(None),
+    };
+    match infer(alloc, names, whole.bindings, at, room)? {
+        Some(place) => Ok(Some(element_of(alloc, place.bindings, &whole.ty, &place.ty)?)),
+        None => Ok(None),
+    }
+}
+
+/// Bindings under which the expression has the wanted type, None where it has it under none.
+#[cycle(infer)]
+fn typed<'a>(
+    alloc: Global,
+    names: &[Name<'a>],
+    bindings: Bindings,
+    expr: &'a Expr,
+    wanted: &Ty,
+    room: u32,
+) -> Result<Option<Bindings>, Stop>
+    requires names { NamesBelow (next_of bindings) names.now }
+    requires wanted { IsBelow (next_of bindings) (term wanted.now) }
+    ensures { IfOk result (FindsThat (λ s. TypeOf names.now expr.now s (ground s (term wanted.now))) bindings) }
+{
+    match infer(alloc, names, bindings, expr, room)? {
+        Some(found) => Ok(Some(equal(alloc, found.bindings, &found.ty, wanted)?)),
+        None => Ok(None),
+    }
+}
+
+/// A type of both branches.
+#[cycle(infer)]
+fn infer_if<'a>(
+    alloc: Global,
+    names: &[Name<'a>],
+    bindings: Bindings,
+    test: &'a Expr,
+    yes: &'a Expr,
+    no: &'a Expr,
+    room: u32,
+) -> Result<Option<Inferred>, Stop>
+    requires { NamesBelow (next_of bindings) names.now }
+    ensures { IfOk result (Finds (ShapeOf names.now (if_then (tree_of test.now) (tree_of yes.now) (tree_of no.now))) bindings) }
+{
+    let tested = match typed(alloc, names, bindings, test, &Ty::Bool, room)? {
+        Some(tested) => tested,
+        None => return Ok(None),
+    };
+    let branch = match infer(alloc, names, tested, yes, room)? {
+        Some(found) => found,
+        None => return Ok(None),
+    };
+    match typed(alloc, names, branch.bindings, no, &branch.ty, room)? {
+        Some(bindings) => {
+            let ty = branch.ty;
+            Ok(Some(Inferred { bindings, ty }))
+        }
+        None => Ok(None),
+    }
+}
+
+/// A type of an array of the items.
+#[cycle(infer)]
+fn infer_array<'a>(
+    alloc: Global,
+    names: &[Name<'a>],
+    bindings: Bindings,
+    items: &'a [Expr],
+    room: u32,
+) -> Result<Option<Inferred>, Stop>
+    requires { NamesBelow (next_of bindings) names.now }
+    ensures { IfOk result (Finds (ShapeOf names.now (array (trees_of (map tree_of items.now)))) bindings) }
+{
+    let element = any_array(alloc, bindings)?;
+    let mut asked = element.bindings;
+    for item in items {
+        asked = match typed(alloc, names, asked, item, &element.ty, room)? {
+            Some(bindings) => bindings,
+            None => return Ok(None),
+        };
+    }
+    let ty = array_of(alloc, element.ty)?;
+    Ok(Some(Inferred {
+        bindings: asked,
+        ty,
+    }))
+}
