@@ -1,12 +1,13 @@
-use fx_base::{Boxed, List, Place, Text};
+use fx_base::{List, Place, Shared, Text};
 use fx_time::Span;
 
-/// An expression. Its place is that of its first token, but for an index that of its `[`.
+/// An expression, which its copies share. Its place is that of its first token, but for an index
+/// that of its `[`.
 #[derive(Drop)]
 #[cycle(tree)]
 pub struct Expr {
     pub place: Place,
-    pub node: Boxed<Node>,
+    pub node: Shared<Node>,
 }
 
 /// What an expression is, by the line of the grammar that it comes from.

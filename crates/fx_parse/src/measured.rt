@@ -8,7 +8,7 @@ ghost use Rattle.fx_ast.specs.Levels.{below, height};
 ghost use Rattle.fx_parse.specs.Measures.{capped, plain_of};
 
 use fx_ast::{Expr, Node};
-use fx_base::{Boxed, Memory, Place, Text};
+use fx_base::{Memory, Place, Shared, Text};
 use std::alloc::Global;
 
 /// An expression, and what the parser asks of it.
@@ -50,7 +50,7 @@ pub(crate) fn made(
 {
     let tree = Expr {
         place,
-        node: Boxed::new(alloc, node)?,
+        node: Shared::new(alloc, node)?,
     };
     Ok(Measured {
         tree,

@@ -61,7 +61,7 @@ closure_shape c = record {
   params = params_of (map param c.params);
   lets = (body c.body).lets;
   result = (body c.body).result;
-  captured = slots_of c.captured;
+  captured = slots_of c.captured.value;
   setting = c.setting.value;
 }
 

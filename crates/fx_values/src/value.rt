@@ -40,7 +40,7 @@ pub struct Slot {
 pub struct Closure {
     pub params: List<Param>,
     pub body: Body,
-    pub captured: List<Slot>,
+    pub captured: Rc<List<Slot>>,
     pub setting: Rc<Setting>,
 }
 
