@@ -8,6 +8,8 @@ pub mod ConvertCalls
 pub mod Entered
 pub mod FoldCalls
 pub mod FoldLaws
+pub mod JoinCalls
+pub mod JoinLaws
 pub mod KindLaws
 pub mod MemberCalls
 pub mod NameLaws

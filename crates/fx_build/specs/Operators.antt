@@ -22,6 +22,10 @@ use Rattle.fx_group.specs.Group.{grouped_by, grouped_except}
 use Rattle.fx_group.specs.Map.{mapped}
 use Rattle.fx_group.specs.Range.{ranged}
 use Rattle.fx_group.specs.Union.{united}
+use Rattle.fx_join.specs.Joined.{joined}
+use Rattle.fx_join.specs.SameTime.{joined_by_time}
+use Rattle.fx_join.specs.declared.side.Side.{Side}
+use Rattle.fx_join.specs.declared.side.Side.TheVariants.{Full, Inner, Left, Right}
 use Rattle.fx_shape.specs.Columns.{column_doubled, column_filled, column_set}
 use Rattle.fx_shape.specs.Keep.{columns_dropped, columns_kept}
 use Rattle.fx_shape.specs.Rename.{columns_renamed}
@@ -92,6 +96,10 @@ of_none made _ = Stuck
 abbrev pub of_one : (List Table → End (List Table)) → List (List Table) → End (List Table)
 of_one made (ts ∷ []) = made ts
 of_one made _ = Stuck
+
+abbrev pub of_two : (List Table → List Table → End (List Table)) → List (List Table) → End (List Table)
+of_two made (ls ∷ rs ∷ []) = made ls rs
+of_two made _ = Stuck
 
 -- the bucket's tables of the kind
 abbrev pub bucket_tables : Stored → Kind → Place → Label → End (List Table)
@@ -170,6 +178,12 @@ doubled_in w tables = do
   copy ← found (word_at w (codes "as") None)
   pure (column_doubled column copy tables)
 
+-- the words of `method`
+abbrev pub side_named : Label → Option Side
+side_named method =
+    if same_text method (codes "inner") then Some Inner
+    else (if same_text method (codes "left") then Some Left else (if same_text method (codes "right") then Some Right else (if same_text method (codes "full") then Some Full else None)))
+
 -- the words of `columns`: olds and news
 abbrev pub renamed_by : Option LabelWords → List Table → End (List Table)
 renamed_by None tables = Stuck
@@ -192,6 +206,19 @@ module _ (test : Tests) (stored : Stored) where
     identity ← row_in v
     f ← argument (codes "fn") args
     reduced (row_meaning test f) identity tables limit
+
+  abbrev pub of_pairs : Side → Slots → ℕ → List Table → List Table → End (List Table)
+  of_pairs side args limit ls rs = do
+    on ← argument (codes "on") args
+    both ← argument (codes "as") args
+    joined (row_meaning test on) (row_meaning test both) side ls rs limit
+
+  abbrev pub of_times : Given → Slots → ℕ → List Table → List Table → End (List Table)
+  of_times w args limit ls rs = do
+    method ← found (word_at w (codes "method") (Some (codes "inner")))
+    side ← found (side_named method)
+    both ← argument (codes "as") args
+    joined_by_time (row_meaning test both) side ls rs limit
 
   -- what an operator makes of the tables of its inputs, with the words that its arguments say. It calls functions of rows
   -- under the limit. Those that aren't listed come later
@@ -217,5 +244,10 @@ module _ (test : Tests) (stored : Stored) where
   operator s.First place w args limit = of_one (at_column (aggregated place First) w)
   operator s.Last place w args limit = of_one (at_column (aggregated place Last) w)
   operator s.Reduce place w args limit = of_one (λ tables. of_folded_rows args tables limit)
+  operator s.JoinInner place w args limit = of_two (of_pairs Inner args limit)
+  operator s.JoinLeft place w args limit = of_two (of_pairs Left args limit)
+  operator s.JoinRight place w args limit = of_two (of_pairs Right args limit)
+  operator s.JoinFull place w args limit = of_two (of_pairs Full args limit)
+  operator s.JoinTime place w args limit = of_two (of_times w args limit)
   operator s.Rename place w args limit = of_one (renamed_in w)
   operator _ place w args limit = λ received. Stuck
