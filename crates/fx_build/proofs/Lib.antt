@@ -27,6 +27,7 @@ pub mod RunLaws
 pub mod SafeLaws
 pub mod ScalarCalls
 pub mod SlotLaws
+pub mod SortCalls
 pub mod Sound
 pub mod Soundness
 pub mod SourceLaws

@@ -34,6 +34,7 @@ use Rattle.fx_build.proofs.JoinCalls.{full_safe, inner_safe, left_safe, right_sa
 use Rattle.fx_build.proofs.OperatorCalls.{AreTables, HaveTables, OperatorIsSafe, array_safe, bools_safe, filter_safe, from_safe, map_safe, range_safe, texts_safe}
 use Rattle.fx_build.proofs.RenameCalls.{rename_safe}
 use Rattle.fx_build.proofs.SafeLaws.{safe_as, safe_cut, safe_later, safe_then}
+use Rattle.fx_build.proofs.SortCalls.{sort_safe}
 use Rattle.fx_build.proofs.StreamLines.{AreStreams, HasInputs, MakesStream, stream_lined}
 
 -- ---- what a line that gives a stream takes
@@ -75,6 +76,7 @@ module _ (test : Tests) (stored : Stored) (lawful : AreLawful stored) where
   operator_safe s.Last listed = last_safe test stored
   operator_safe s.Reduce listed = reduce_safe test stored
   operator_safe s.Rename listed = rename_safe test stored
+  operator_safe s.Sort listed = sort_safe test stored
   operator_safe s.JoinInner listed = inner_safe test stored
   operator_safe s.JoinLeft listed = left_safe test stored
   operator_safe s.JoinRight listed = right_safe test stored

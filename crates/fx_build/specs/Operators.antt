@@ -1,5 +1,5 @@
 -- What operators make of tables: their arguments, their words, and the tables.
-use Rattle.std.specs.Prelude.{ℕ, ℤ, pos, int_le, Bool, List, [], ◌∷◌, Option, None, Some, codes, if◌then◌else◌}
+use Rattle.std.specs.Prelude.{ℕ, ℤ, pos, int_le, Bool, List, [], ◌∷◌, Option, None, Some, codes, if◌then◌else◌, false}
 use Rattle.std.specs.FinMap.{empty}
 use Rattle.fx_base.specs.Text.{same_text}
 use Rattle.fx_base.specs.declared.fault.FaultKind.{FaultKind}
@@ -29,6 +29,7 @@ use Rattle.fx_join.specs.declared.side.Side.TheVariants.{Full, Inner, Left, Righ
 use Rattle.fx_shape.specs.Columns.{column_doubled, column_filled, column_set}
 use Rattle.fx_shape.specs.Keep.{columns_dropped, columns_kept}
 use Rattle.fx_shape.specs.Rename.{columns_renamed}
+use Rattle.fx_shape.specs.Sort.{rows_sorted}
 use Rattle.fx_shape.specs.Part.{limited, tailed}
 use Rattle.fx_schemes.specs.declared.given.LabelWords.{LabelWords}
 use Rattle.fx_schemes.specs.Given.{Given, is_one_of, list_at, text_at as word_at, words_at}
@@ -84,6 +85,16 @@ count_at place _ = Stuck
 abbrev pub count_or_none : Place → Option Val → End ℤ
 count_or_none place None = pure (pos 0)
 count_or_none place (Some v) = count_at place v
+
+-- a Boolean, which is false where it isn't given
+abbrev pub flag_at : Place → Val → End Bool
+flag_at place (cell (scalar.Bool b)) = pure b
+flag_at place (cell scalar.Null) = no_argument place NullArgument
+flag_at place _ = Stuck
+
+abbrev pub flag_or_false : Place → Option Val → End Bool
+flag_or_false place None = pure false
+flag_or_false place (Some v) = flag_at place v
 
 -- ---- operators
 
@@ -178,6 +189,12 @@ doubled_in w tables = do
   copy ← found (word_at w (codes "as") None)
   pure (column_doubled column copy tables)
 
+abbrev pub sorted_in : Given → Place → Slots → List Table → End (List Table)
+sorted_in w place args tables = do
+  columns ← found (list_at w (codes "columns") (Some (codes "_value" ∷ [])))
+  desc ← flag_or_false place (look (codes "desc") args)
+  pure (rows_sorted columns desc tables)
+
 -- the words of `method`
 abbrev pub side_named : Label → Option Side
 side_named method =
@@ -249,5 +266,6 @@ module _ (test : Tests) (stored : Stored) where
   operator s.JoinRight place w args limit = of_two (of_pairs Right args limit)
   operator s.JoinFull place w args limit = of_two (of_pairs Full args limit)
   operator s.JoinTime place w args limit = of_two (of_times w args limit)
+  operator s.Sort place w args limit = of_one (sorted_in w place args)
   operator s.Rename place w args limit = of_one (renamed_in w)
   operator _ place w args limit = λ received. Stuck

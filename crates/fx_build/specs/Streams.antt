@@ -87,6 +87,7 @@ is_listed s.First = true
 is_listed s.Last = true
 is_listed s.Reduce = true
 is_listed s.Rename = true
+is_listed s.Sort = true
 is_listed s.JoinInner = true
 is_listed s.JoinLeft = true
 is_listed s.JoinRight = true
