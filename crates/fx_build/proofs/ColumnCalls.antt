@@ -54,7 +54,7 @@ use Rattle.fx_build.proofs.TableLaws.{EachRow, gathered_all, left_all, regrouped
 pub word_safe : {A B : Type 0} (P : B → Type 0) (o : Option A) (x : A) (f : A → End B) → o ≡ Some x → IsSafe P (f x) → IsSafe P (found o >>= f)
 word_safe P o x f e h = subst (λ p. IsSafe P (found p >>= f)) (sym e) (safe_later P 0 (f x) h)
 
-one_among : (o : Option Label) (ms : List Label) → among o ms ≡ true → (m : Label) × (o ≡ Some m) × (listed m ms ≡ true)
+pub one_among : (o : Option Label) (ms : List Label) → among o ms ≡ true → (m : Label) × (o ≡ Some m) × (listed m ms ≡ true)
 one_among None ms e = absurd (false≢true e)
 one_among (Some m) ms e = (m, refl, e)
 

@@ -8,6 +8,8 @@ pub mod ConvertCalls
 pub mod Entered
 pub mod FoldCalls
 pub mod FoldLaws
+pub mod JoinCalls
+pub mod JoinLaws
 pub mod KindLaws
 pub mod MemberCalls
 pub mod NameLaws
@@ -25,6 +27,7 @@ pub mod RunLaws
 pub mod SafeLaws
 pub mod ScalarCalls
 pub mod SlotLaws
+pub mod SortCalls
 pub mod Sound
 pub mod Soundness
 pub mod SourceLaws

@@ -13,7 +13,14 @@ use Rattle.fx_group.specs.Answer.{Meaning}
 use Rattle.fx_group.specs.Filter.{filtered, kept_tables}
 use Rattle.fx_group.specs.Map.{mapped, mapped_tables}
 use Rattle.fx_group.proofs.Steady.{steady_kept_tables, steady_mapped_tables}
-use Rattle.fx_schemes.specs.Given.{Given}
+use Rattle.fx_join.specs.Joined.{all_met_rows, joined}
+use Rattle.fx_join.specs.Limited.{same_times_limited}
+use Rattle.fx_join.specs.Meet.{meetings}
+use Rattle.fx_join.specs.SameTime.{joined_by_time, same_times}
+use Rattle.fx_join.specs.declared.side.Side.{Side}
+use Rattle.fx_join.specs.declared.side.Side.TheVariants.{Full, Inner, Left, Right}
+use Rattle.fx_join.proofs.SteadyJoins.{steady_all}
+use Rattle.fx_schemes.specs.Given.{Given, text_at}
 use Rattle.fx_meaning.specs.declared.stream.StreamFn.{StreamFn}
 use Rattle.fx_meaning.specs.declared.stream.StreamFn.TheVariants as s
 use Rattle.fx_meaning.specs.Ends.{◌>>=◌, found, pure}
@@ -23,7 +30,7 @@ use Rattle.fx_meaning.specs.Native.{stream_builtin}
 use Rattle.fx_meaning.specs.Rows.{Row, row_meaning}
 use Rattle.fx_meaning.specs.Value.{Slots, Stream, applied, Streams, no_streams, more_streams}
 use Rattle.fx_meaning.proofs.MeaningLaws.{row_limited}
-use Rattle.fx_build.specs.Operators.{drops, of_folded_rows, of_made_rows, of_one, of_wanted_rows, operator, row_in}
+use Rattle.fx_build.specs.Operators.{drops, of_folded_rows, of_made_rows, of_one, of_pairs, of_times, of_two, of_wanted_rows, operator, row_in, side_named}
 use Rattle.fx_build.specs.Said.{said_in}
 use Rattle.fx_build.specs.Sources.{Stored}
 use Rattle.fx_build.specs.Streams.{counted, inputs_run, is_source, operator_run, size_of, sizes_of, stream_meaning, stream_run, yield_meaning}
@@ -46,6 +53,19 @@ module _ (means : Meaning) (limited : (rows : List Row) → IsLimited (means row
   reduced_steady identity =
       steady_limited (reduced means identity tables) (limited_cut (λ n. and_then (reduced_tables means identity tables n) (λ rows. Gives (regrouped rows) 0))
       (steady_then (reduced_tables means identity tables) (λ rows n. Gives (regrouped rows) 0) (steady_tables means limited identity tables) (λ rows. steady_same {A = List Table} (Gives (regrouped rows) 0))))
+
+joined_steady : (on : Meaning) → ((rows : List Row) → IsLimited (on rows)) → (both : Meaning) → ((rows : List Row) → IsLimited (both rows)) → (side : Side) (ls rs : List Table) → IsSteady (joined on both side ls rs)
+unfolding joined
+joined_steady on on_limited both both_limited side ls rs =
+    steady_limited (joined on both side ls rs) (limited_cut (λ n. and_then (all_met_rows on both side (meetings ls rs) n) (λ rows. Gives (regrouped rows) 0))
+    (steady_then (all_met_rows on both side (meetings ls rs)) (λ rows n. Gives (regrouped rows) 0) (steady_all on on_limited both both_limited side (meetings ls rs))
+    (λ rows. steady_same {A = List Table} (Gives (regrouped rows) 0))))
+
+two_steady : (f : ℕ → List Table → List Table → End (List Table)) → ((ls rs : List Table) → IsSteady (λ n. f n ls rs)) → (tss : List (List Table)) → IsSteady (λ n. of_two (f n) tss)
+two_steady f steady [] = steady_same {A = List Table} Stuck
+two_steady f steady (ls ∷ []) = steady_same {A = List Table} Stuck
+two_steady f steady (ls ∷ rs ∷ []) = steady ls rs
+two_steady f steady (ls ∷ rs ∷ us ∷ tss) = steady_same {A = List Table} Stuck
 
 one_steady : (made : ℕ → List Table → End (List Table)) → ((ts : List Table) → IsSteady (λ n. made n ts)) → (tss : List (List Table)) → IsSteady (λ n. of_one (made n) tss)
 one_steady made steady [] = steady_same {A = List Table} Stuck
@@ -70,11 +90,30 @@ module _ (test : Tests) (stored : Stored) where
       (λ identity. steady_then (λ n. argument (codes "fn") args) (λ f n. reduced (row_meaning test f) identity ts n) (steady_same (argument (codes "fn") args))
       (λ f. reduced_steady (row_meaning test f) (row_limited test f) ts identity)))
 
+  pairs_steady : (side : Side) (args : Slots) (ls rs : List Table) → IsSteady (λ n. of_pairs test stored side args n ls rs)
+  pairs_steady side args ls rs =
+      steady_then (λ n. argument (codes "on") args) (λ on n. argument (codes "as") args >>= (λ both. joined (row_meaning test on) (row_meaning test both) side ls rs n)) (steady_same (argument (codes "on") args))
+      (λ on. steady_then (λ n. argument (codes "as") args) (λ both n. joined (row_meaning test on) (row_meaning test both) side ls rs n) (steady_same (argument (codes "as") args))
+      (λ both. joined_steady (row_meaning test on) (row_limited test on) (row_meaning test both) (row_limited test both) side ls rs))
+
+  times_steady : (w : Given) (args : Slots) (ls rs : List Table) → IsSteady (λ n. of_times test stored w args n ls rs)
+  times_steady w args ls rs =
+      let method = found (text_at w (codes "method") (Some (codes "inner"))) in
+      steady_then (λ n. method) (λ method n. found (side_named method) >>= (λ side. argument (codes "as") args >>= (λ both. joined_by_time (row_meaning test both) side ls rs n))) (steady_same method)
+      (λ method. steady_then (λ n. found (side_named method)) (λ side n. argument (codes "as") args >>= (λ both. joined_by_time (row_meaning test both) side ls rs n)) (steady_same (found (side_named method)))
+      (λ side. steady_then (λ n. argument (codes "as") args) (λ both n. joined_by_time (row_meaning test both) side ls rs n) (steady_same (argument (codes "as") args))
+      (λ both. joined_steady (same_times (codes "_time")) (same_times_limited (codes "_time")) (row_meaning test both) (row_limited test both) side ls rs)))
+
   -- the others make the same under each limit
   operator_steady : (g : StreamFn) (place : Place) (w : Given) (args : Slots) (tss : List (List Table)) → IsSteady (λ n. operator test stored g place w args n tss)
   operator_steady s.Filter place w args tss = one_steady (λ n ts. of_wanted_rows test stored w args ts n) (wanted_steady w args) tss
   operator_steady s.Map place w args tss = one_steady (λ n ts. of_made_rows test stored args ts n) (made_steady args) tss
   operator_steady s.Reduce place w args tss = one_steady (λ n ts. of_folded_rows test stored args ts n) (folded_steady args) tss
+  operator_steady s.JoinInner place w args tss = two_steady (λ n ls rs. of_pairs test stored Inner args n ls rs) (pairs_steady Inner args) tss
+  operator_steady s.JoinLeft place w args tss = two_steady (λ n ls rs. of_pairs test stored Left args n ls rs) (pairs_steady Left args) tss
+  operator_steady s.JoinRight place w args tss = two_steady (λ n ls rs. of_pairs test stored Right args n ls rs) (pairs_steady Right args) tss
+  operator_steady s.JoinFull place w args tss = two_steady (λ n ls rs. of_pairs test stored Full args n ls rs) (pairs_steady Full args) tss
+  operator_steady s.JoinTime place w args tss = two_steady (λ n ls rs. of_times test stored w args n ls rs) (times_steady w args) tss
   operator_steady s.From place w args tss = steady_same (operator test stored s.From place w args 0 tss)
   operator_steady g place w args tss = steady_same (operator test stored g place w args 0 tss)
 

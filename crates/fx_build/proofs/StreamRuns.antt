@@ -30,9 +30,11 @@ use Rattle.fx_build.specs.Streams.{all_listed, counted, inputs_listed, inputs_ru
 use Rattle.fx_build.proofs.ChoiceCalls.{first_safe, last_safe, max_safe, min_safe}
 use Rattle.fx_build.proofs.FoldCalls.{reduce_safe}
 use Rattle.fx_build.proofs.ColumnCalls.{drop_safe, duplicate_safe, fill_safe, group_safe, keep_safe, limit_safe, set_safe, tail_safe, union_safe}
+use Rattle.fx_build.proofs.JoinCalls.{full_safe, inner_safe, left_safe, right_safe, time_safe}
 use Rattle.fx_build.proofs.OperatorCalls.{AreTables, HaveTables, OperatorIsSafe, array_safe, bools_safe, filter_safe, from_safe, map_safe, range_safe, texts_safe}
 use Rattle.fx_build.proofs.RenameCalls.{rename_safe}
 use Rattle.fx_build.proofs.SafeLaws.{safe_as, safe_cut, safe_later, safe_then}
+use Rattle.fx_build.proofs.SortCalls.{sort_safe}
 use Rattle.fx_build.proofs.StreamLines.{AreStreams, HasInputs, MakesStream, stream_lined}
 
 -- ---- what a line that gives a stream takes
@@ -74,6 +76,12 @@ module _ (test : Tests) (stored : Stored) (lawful : AreLawful stored) where
   operator_safe s.Last listed = last_safe test stored
   operator_safe s.Reduce listed = reduce_safe test stored
   operator_safe s.Rename listed = rename_safe test stored
+  operator_safe s.Sort listed = sort_safe test stored
+  operator_safe s.JoinInner listed = inner_safe test stored
+  operator_safe s.JoinLeft listed = left_safe test stored
+  operator_safe s.JoinRight listed = right_safe test stored
+  operator_safe s.JoinFull listed = full_safe test stored
+  operator_safe s.JoinTime listed = time_safe test stored
   operator_safe _ listed = absurd (false≢true listed)
 
   counted_safe : (g : StreamFn) (r : GroundRow) (received : List (List Table)) (made : End (List Table)) → IsSafe (TablesFit r) made → IsSafe (TablesFit r) (counted g received made)

@@ -1,5 +1,5 @@
 -- What operators make of tables: their arguments, their words, and the tables.
-use Rattle.std.specs.Prelude.{ℕ, ℤ, pos, int_le, Bool, List, [], ◌∷◌, Option, None, Some, codes, if◌then◌else◌}
+use Rattle.std.specs.Prelude.{ℕ, ℤ, pos, int_le, Bool, List, [], ◌∷◌, Option, None, Some, codes, if◌then◌else◌, false}
 use Rattle.std.specs.FinMap.{empty}
 use Rattle.fx_base.specs.Text.{same_text}
 use Rattle.fx_base.specs.declared.fault.FaultKind.{FaultKind}
@@ -22,9 +22,14 @@ use Rattle.fx_group.specs.Group.{grouped_by, grouped_except}
 use Rattle.fx_group.specs.Map.{mapped}
 use Rattle.fx_group.specs.Range.{ranged}
 use Rattle.fx_group.specs.Union.{united}
+use Rattle.fx_join.specs.Joined.{joined}
+use Rattle.fx_join.specs.SameTime.{joined_by_time}
+use Rattle.fx_join.specs.declared.side.Side.{Side}
+use Rattle.fx_join.specs.declared.side.Side.TheVariants.{Full, Inner, Left, Right}
 use Rattle.fx_shape.specs.Columns.{column_doubled, column_filled, column_set}
 use Rattle.fx_shape.specs.Keep.{columns_dropped, columns_kept}
 use Rattle.fx_shape.specs.Rename.{columns_renamed}
+use Rattle.fx_shape.specs.Sort.{rows_sorted}
 use Rattle.fx_shape.specs.Part.{limited, tailed}
 use Rattle.fx_schemes.specs.declared.given.LabelWords.{LabelWords}
 use Rattle.fx_schemes.specs.Given.{Given, is_one_of, list_at, text_at as word_at, words_at}
@@ -81,6 +86,16 @@ abbrev pub count_or_none : Place → Option Val → End ℤ
 count_or_none place None = pure (pos 0)
 count_or_none place (Some v) = count_at place v
 
+-- a Boolean, which is false where it isn't given
+abbrev pub flag_at : Place → Val → End Bool
+flag_at place (cell (scalar.Bool b)) = pure b
+flag_at place (cell scalar.Null) = no_argument place NullArgument
+flag_at place _ = Stuck
+
+abbrev pub flag_or_false : Place → Option Val → End Bool
+flag_or_false place None = pure false
+flag_or_false place (Some v) = flag_at place v
+
 -- ---- operators
 
 -- of no input, and of one
@@ -92,6 +107,10 @@ of_none made _ = Stuck
 abbrev pub of_one : (List Table → End (List Table)) → List (List Table) → End (List Table)
 of_one made (ts ∷ []) = made ts
 of_one made _ = Stuck
+
+abbrev pub of_two : (List Table → List Table → End (List Table)) → List (List Table) → End (List Table)
+of_two made (ls ∷ rs ∷ []) = made ls rs
+of_two made _ = Stuck
 
 -- the bucket's tables of the kind
 abbrev pub bucket_tables : Stored → Kind → Place → Label → End (List Table)
@@ -170,6 +189,18 @@ doubled_in w tables = do
   copy ← found (word_at w (codes "as") None)
   pure (column_doubled column copy tables)
 
+abbrev pub sorted_in : Given → Place → Slots → List Table → End (List Table)
+sorted_in w place args tables = do
+  columns ← found (list_at w (codes "columns") (Some (codes "_value" ∷ [])))
+  desc ← flag_or_false place (look (codes "desc") args)
+  pure (rows_sorted columns desc tables)
+
+-- the words of `method`
+abbrev pub side_named : Label → Option Side
+side_named method =
+    if same_text method (codes "inner") then Some Inner
+    else (if same_text method (codes "left") then Some Left else (if same_text method (codes "right") then Some Right else (if same_text method (codes "full") then Some Full else None)))
+
 -- the words of `columns`: olds and news
 abbrev pub renamed_by : Option LabelWords → List Table → End (List Table)
 renamed_by None tables = Stuck
@@ -192,6 +223,19 @@ module _ (test : Tests) (stored : Stored) where
     identity ← row_in v
     f ← argument (codes "fn") args
     reduced (row_meaning test f) identity tables limit
+
+  abbrev pub of_pairs : Side → Slots → ℕ → List Table → List Table → End (List Table)
+  of_pairs side args limit ls rs = do
+    on ← argument (codes "on") args
+    both ← argument (codes "as") args
+    joined (row_meaning test on) (row_meaning test both) side ls rs limit
+
+  abbrev pub of_times : Given → Slots → ℕ → List Table → List Table → End (List Table)
+  of_times w args limit ls rs = do
+    method ← found (word_at w (codes "method") (Some (codes "inner")))
+    side ← found (side_named method)
+    both ← argument (codes "as") args
+    joined_by_time (row_meaning test both) side ls rs limit
 
   -- what an operator makes of the tables of its inputs, with the words that its arguments say. It calls functions of rows
   -- under the limit. Those that aren't listed come later
@@ -217,5 +261,11 @@ module _ (test : Tests) (stored : Stored) where
   operator s.First place w args limit = of_one (at_column (aggregated place First) w)
   operator s.Last place w args limit = of_one (at_column (aggregated place Last) w)
   operator s.Reduce place w args limit = of_one (λ tables. of_folded_rows args tables limit)
+  operator s.JoinInner place w args limit = of_two (of_pairs Inner args limit)
+  operator s.JoinLeft place w args limit = of_two (of_pairs Left args limit)
+  operator s.JoinRight place w args limit = of_two (of_pairs Right args limit)
+  operator s.JoinFull place w args limit = of_two (of_pairs Full args limit)
+  operator s.JoinTime place w args limit = of_two (of_times w args limit)
+  operator s.Sort place w args limit = of_one (sorted_in w place args)
   operator s.Rename place w args limit = of_one (renamed_in w)
   operator _ place w args limit = λ received. Stuck

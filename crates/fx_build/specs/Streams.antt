@@ -87,6 +87,12 @@ is_listed s.First = true
 is_listed s.Last = true
 is_listed s.Reduce = true
 is_listed s.Rename = true
+is_listed s.Sort = true
+is_listed s.JoinInner = true
+is_listed s.JoinLeft = true
+is_listed s.JoinRight = true
+is_listed s.JoinFull = true
+is_listed s.JoinTime = true
 is_listed _ = false
 
 -- the stream is made of these alone

@@ -4,3 +4,4 @@ pub mod Cut
 pub mod Keep
 pub mod Part
 pub mod Rename
+pub mod Sort
