@@ -11,6 +11,8 @@ pub mod InfersLaws
 pub mod KeptLaws
 pub mod ListLaws
 pub mod MoreArms
+pub mod NameArms
+pub mod NativeLaws
 pub mod RuleLaws
 pub mod ScopeLaws
 pub mod ScriptLaws

@@ -25,3 +25,6 @@ decreases-infer_array l = 4 * l.room + 2
 
 abbrev pub invariant-infer_array-loop-item : goal.invariant-infer_array-loop-item
 invariant-infer_array-loop-item l = Asks (λ s. ItemsOf l.names (take l.item-index l.items) s (ground s (term l.element.ty))) l.initial.asked l.asked
+
+abbrev pub decreases-infer_name : goal.decreases-infer_name
+decreases-infer_name l = 4 * l.room + 2
