@@ -4,6 +4,7 @@ pub mod AskingLaws
 pub mod ByLineLaws
 pub mod CallLaws
 pub mod CalledLaws
+pub mod ChainArms
 pub mod DivideLaws
 pub mod EntryLaws
 pub mod FreshLaws
