@@ -113,3 +113,11 @@ pub asked_first : {R : Type 0} (S : Solution → Type 0) (G C : Solution → R �
 asked_first S G C old mid new f is le h reads same =
     seen_where (λ s x. S s × G s x.1) C (λ s x. x.1) old new (λ s. (tt, f s)) (both (λ s u. S s) (λ u s r. G s r) old mid new (λ s. tt) f (asked S old mid le is) h (λ u. reads))
     (λ s q agree x. refl) (λ s x h k. (same s x.1 h).1 k) (λ s r h c. ((tt, r), (same s r h).0 c, refl))
+
+-- the same question in other words
+
+pub instead : {R : Type 0} (T U : Solution → R → Type 0) (old new : Bindings) (f : Solution → R) → ((s : Solution) (r : R) → T s r ↔ U s r) → Infers T old new f → Infers U old new f
+instead T U old new f same h = seen_as T U (λ s r. r) old new f h (λ s q agree r. refl) (λ s r t. (same s r).0 t) (λ s r u. (r, (same s r).1 u, refl))
+
+pub none_instead : {R : Type 0} (T U : Solution → R → Type 0) (old : Bindings) → ((s : Solution) (r : R) → T s r ↔ U s r) → HasNone T old → HasNone U old
+none_instead T U old same none = λ s h within r u. none s h within r ((same s r).1 u)

@@ -4,6 +4,7 @@ pub mod AskingLaws
 pub mod ByLineLaws
 pub mod CallLaws
 pub mod CalledLaws
+pub mod ChainArms
 pub mod DivideLaws
 pub mod EntryLaws
 pub mod FreshLaws
@@ -11,6 +12,8 @@ pub mod InfersLaws
 pub mod KeptLaws
 pub mod ListLaws
 pub mod MoreArms
+pub mod NameArms
+pub mod NativeLaws
 pub mod RuleLaws
 pub mod ScopeLaws
 pub mod ScriptLaws

@@ -51,7 +51,7 @@ past_all s x (n ∷ ns) env h =
     let k : (same_text x n.label.now ≡ false) × (listed x (labels_among ns) ≡ false) = neither (same_text x n.label.now) (listed x (labels_among ns)) h in
     past_all s x ns (entry_under s n ∷ env) k.1 ∙ past_entry x (entry_under s n) env (ap (same_text x) (label_by s n.label.now n.bound) ∙ k.0)
 
-onto_at : (s : Solution) (ns : List Name) (i : ℕ) (n : Name) (env : Env) → i < length ns → n ≡ get_or ns i n → onto s ns env ≡ onto s (drop (suc i) ns) (entry_under s n ∷ onto s (take i ns) env)
+pub onto_at : (s : Solution) (ns : List Name) (i : ℕ) (n : Name) (env : Env) → i < length ns → n ≡ get_or ns i n → onto s ns env ≡ onto s (drop (suc i) ns) (entry_under s n ∷ onto s (take i ns) env)
 onto_at s [] i n env lt at = absurd (omega arith)
 onto_at s (m ∷ ns) zero n env lt at = ap (λ k. onto s ns (entry_under s k ∷ env)) (sym at)
 onto_at s (m ∷ ns) (suc i) n env lt at = onto_at s ns i n (entry_under s m ∷ env) (omega arith) at

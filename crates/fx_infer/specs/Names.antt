@@ -6,6 +6,7 @@ use Rattle.fx_types.specs.Ground.{Ground, listed}
 use Rattle.fx_types.specs.Instance.{Solution}
 use Rattle.fx_types.specs.Term.{Label}
 use Rattle.fx_ast.specs.declared.expr.Expr.{Expr}
+use Rattle.fx_ast.specs.declared.expr.Link.{Link}
 use Rattle.fx_ast.specs.Shape.{tree_of}
 use Rattle.fx_ast.specs.Tree.{Shape}
 use Rattle.fx_infer.specs.Ask.{type_is}
@@ -13,6 +14,7 @@ use Rattle.fx_infer.specs.declared.scope.Bound as bounds
 use Rattle.fx_infer.specs.declared.scope.Bound.TheVariants as bound
 use Rattle.fx_infer.specs.declared.scope.Name as names
 use Rattle.fx_infer.specs.Environment.{Entry, param, assigned, imported, Env, scope, HasType}
+use Rattle.fx_infer.specs.Operators.{Infixed}
 use Rattle.fx_infer.specs.Typing.{has_shape}
 
 -- what the name is bound to, where a solution gives variables their types
@@ -51,3 +53,7 @@ TypeOf ns e s t = HasType (env_under s ns) (tree_of e) t
 -- the same of what an expression is
 abbrev pub ShapeOf : List names.Name → Shape → Solution → Ground → Type 0
 ShapeOf ns e s t = has_shape e (scope (env_under s ns)) (type_is t)
+
+-- the operator with the operand of the link goes from u to t
+abbrev pub LinkOf : List names.Name → Link → Solution → Ground → Ground → Type 0
+LinkOf ns l s u t = (w : Ground) × TypeOf ns l.right s w × Infixed l.op u w t

@@ -2,23 +2,25 @@
 //! in the scope of the names before it; each step down takes one from `room`.
 
 ghost use Rattle.std.specs.Prelude.{IfOk, map};
-ghost use Rattle.fx_ast.specs.Shape.{tree_of, trees_of};
-ghost use Rattle.fx_ast.specs.Tree.{array, prefix, index, if_then};
+ghost use Rattle.fx_ast.specs.Shape.{tree_of, trees_of, link, links_of};
+ghost use Rattle.fx_ast.specs.Tree.{name, array, chain, prefix, index, if_then};
 ghost use Rattle.fx_types.specs.Instance.{ground};
 ghost use Rattle.fx_types.specs.Shape.{term};
 ghost use Rattle.fx_unify.specs.Solutions.{next_of};
 ghost use Rattle.fx_infer.specs.Infers.{IsBelow};
 ghost use Rattle.fx_infer.specs.Finds.{Finds, FindsThat};
-ghost use Rattle.fx_infer.specs.Names.{NamesBelow, TypeOf, ShapeOf};
+ghost use Rattle.fx_infer.specs.Names.{NamesBelow, TypeOf, ShapeOf, LinkOf};
 
 use crate::ask::{Inferred, any_array, equal};
 use crate::literals::{int_type, pattern_type, span_type, time_type};
-use crate::operators::prefixed;
+use crate::natives::{native_value, variable};
+use crate::operators::{infixed, prefixed};
 use crate::rules::element_of;
-use crate::scope::Name;
+use crate::scope::{Bound, Name, newest};
 use crate::stop::Stop;
 use crate::terms::array_of;
-use fx_ast::{Expr, Node, Prefix};
+use fx_ast::{Expr, Link, Node, Prefix};
+use fx_base::Text;
 use fx_types::Ty;
 use fx_unify::Bindings;
 use std::alloc::Global;
@@ -44,12 +46,40 @@ pub(crate) fn infer<'a>(
         Node::Time(value) => Ok(Some(time_type(bindings, *value))),
         Node::Span(value) => Ok(Some(span_type(bindings, value.months, value.nanos))),
         Node::Pattern(_) => Ok(Some(pattern_type(bindings))),
+        Node::Name(label) => infer_name(alloc, names, bindings, label, room),
         Node::Paren(inner) => infer(alloc, names, bindings, inner, room),
         Node::Prefix { sign, of } => infer_prefix(alloc, names, bindings, *sign, of, room),
         Node::Index { of, at } => infer_index(alloc, names, bindings, of, at, room),
+        Node::Chain { first, rest } => {
+            infer_chain(alloc, names, bindings, first, rest.as_slice(), room)
+        }
         Node::If { test, yes, no } => infer_if(alloc, names, bindings, test, yes, no, room),
         Node::Array(items) => infer_array(alloc, names, bindings, items.as_slice(), room),
         _ => Err(Stop::NotYet),
+    }
+}
+
+/// A type of the name, by what it is bound to.
+#[cycle(infer)]
+fn infer_name<'a>(
+    alloc: Global,
+    names: &[Name<'a>],
+    bindings: Bindings,
+    label: &Text,
+    room: u32,
+) -> Result<Option<Inferred>, Stop>
+    requires { NamesBelow (next_of bindings) names.now }
+    ensures { IfOk result (Finds (ShapeOf names.now (name label.now)) bindings) }
+{
+    let place = match newest(names, label) {
+        Some(place) => place,
+        None => return Ok(native_value(alloc, bindings, label)?),
+    };
+    let found = names[place];
+    match found.bound {
+        Bound::Param(number) => Ok(Some(variable(alloc, bindings, number)?)),
+        Bound::Assigned(value) => infer(alloc, &names[..place], bindings, value, room),
+        Bound::Imported(_) => Ok(None),
     }
 }
 
@@ -171,4 +201,49 @@ fn infer_array<'a>(
         bindings: asked,
         ty,
     }))
+}
+
+/// A type of the operators one after another.
+#[cycle(infer)]
+fn infer_chain<'a>(
+    alloc: Global,
+    names: &[Name<'a>],
+    bindings: Bindings,
+    first: &'a Expr,
+    rest: &'a [Link],
+    room: u32,
+) -> Result<Option<Inferred>, Stop>
+    requires { NamesBelow (next_of bindings) names.now }
+    ensures { IfOk result (Finds (ShapeOf names.now (chain (tree_of first.now) (links_of (map link rest.now)))) bindings) }
+{
+    let mut left = match infer(alloc, names, bindings, first, room)? {
+        Some(found) => found,
+        None => return Ok(None),
+    };
+    for next in rest {
+        left = match infer_link(alloc, names, left, next, room)? {
+            Some(found) => found,
+            None => return Ok(None),
+        };
+    }
+    Ok(Some(left))
+}
+
+/// A type of the operator between what stands before and its right operand.
+#[cycle(infer)]
+fn infer_link<'a>(
+    alloc: Global,
+    names: &[Name<'a>],
+    left: Inferred,
+    next: &'a Link,
+    room: u32,
+) -> Result<Option<Inferred>, Stop>
+    requires names { NamesBelow (next_of left.bindings) names.now }
+    requires left { IsBelow (next_of left.bindings) (term left.ty) }
+    ensures { IfOk result (Finds (λ s t. LinkOf names.now next.now s (ground s (term left.ty)) t) left.bindings) }
+{
+    match infer(alloc, names, left.bindings, &next.right, room)? {
+        Some(right) => Ok(Some(infixed(alloc, right.bindings, next.op, &left.ty, &right.ty)?)),
+        None => Ok(None),
+    }
 }

@@ -7,6 +7,7 @@ mod infer;
 mod kept;
 mod lines;
 mod literals;
+mod natives;
 mod operators;
 mod rules;
 mod scope;

@@ -39,7 +39,11 @@ pub(crate) fn line_at(
 }
 
 /// A line of the scheme.
-fn fresh_line(alloc: Global, bindings: Bindings, scheme: BuiltinType) -> Result<Lined, Memory>
+pub(crate) fn fresh_line(
+    alloc: Global,
+    bindings: Bindings,
+    scheme: BuiltinType,
+) -> Result<Lined, Memory>
     requires { numbers_of (shown scheme) ≤ scheme.vars }
     ensures { IfOk result (λ r. Infers (λ s L. IsUse (shown scheme) L) bindings r.bindings (λ s. line_under s r.line)) }
 {

@@ -1,9 +1,9 @@
-use Rattle.std.proofs.Common.{FitsSigned, IfOk, ap, arith, map, rules, subst, sym, ◌∙◌}
+use Rattle.std.proofs.Common.{FitsSigned, IfOk, ap, arith, map, rules, subst, sym, take, ◌∙◌, ◌≡◌}
 use Rattle.std.specs.Int.{w64}
 use Rattle.std.proofs.lemmas.Int.{to_z-of_z}
-use Rattle.fx_ast.specs.Shape.{shape_of, tree_of, trees_of}
-use Rattle.fx_ast.specs.Tree.{array, if_then, index, int, paren, pattern, prefix, span, time}
-use Rattle.fx_ast.proofs.ShapeLaws.{shape_array, shape_if, shape_index, shape_int, shape_paren, shape_pattern, shape_prefix, shape_span, shape_time}
+use Rattle.fx_ast.specs.Shape.{link, links_of, shape_of, tree_of, trees_of}
+use Rattle.fx_ast.specs.Tree.{array, chain, if_then, index, int, name, paren, pattern, prefix, span, time}
+use Rattle.fx_ast.proofs.ShapeLaws.{shape_array, shape_chain, shape_if, shape_index, shape_int, shape_name, shape_paren, shape_pattern, shape_prefix, shape_span, shape_time}
 use Rattle.fx_types.specs.Instance.{ground}
 use Rattle.fx_types.specs.Shape.{term}
 use Rattle.fx_infer.specs.Finds.{Finds}
@@ -17,6 +17,14 @@ use Rattle.fx_types.proofs.ShapeLaws.{term_bool}
 use Rattle.fx_infer.specs.Finds.{FindsThat}
 use Rattle.fx_infer.proofs.MoreArms.{typed_asked, if_found, no_test, no_branch, no_other, if_is, no_item, items_grow, items_all, array_found, no_array, at_later, below_more}
 use Rattle.fx_infer.proofs.ScopeLaws.{names_below}
+use Rattle.fx_types.specs.Size.{IsType}
+use Rattle.fx_infer.specs.Ask.{type_is}
+use Rattle.fx_infer.specs.Names.{IsNewest}
+use Rattle.fx_infer.specs.Native.{natives}
+use Rattle.fx_infer.proofs.InfersLaws.{instead}
+use Rattle.fx_infer.proofs.NameArms.{finds_same, finds_instead, found_place, free_is, param_is, value_is, no_package, prefix_below}
+use Rattle.fx_infer.specs.Names.{LinkOf}
+use Rattle.fx_infer.proofs.ChainArms.{chain_start, chain_grow, no_link, chain_found, link_found}
 use Rattle.fx_infer.proofs.infer.+infer.Goals as goal
 
 pub infer-returns-in-Int : goal.infer-returns-in-Int
@@ -86,7 +94,7 @@ infer-returns-in-If t c =
 pub infer-returns-in-Array : goal.infer-returns-in-Array
 infer-returns-in-Array t c =
     subst (λ T. IfOk c.infer_array.result (Finds T c.args.bindings))
-    (ap (λ es. ShapeOf c.args.names.now (array (trees_of (map tree_of es)))) c.as_slice.ensures
+    (ap (λ es. ShapeOf c.args.names.now (array (trees_of (map tree_of es)))) c.as_slice-in-Array.ensures
     ∙ at_node c.args.names.now c.args.expr.now c.get.result.now (array (trees_of (map tree_of c.in-Array.items))) c.get.ensures (ap shape_of c.in-Array.is ∙ shape_array c.in-Array.items)) c.infer_array.ensures
 
 pub typed-returns-in_ok-equal-in-Some : goal.typed-returns-in_ok-equal-in-Some
@@ -151,3 +159,71 @@ infer_array-returns t c =
     (array_found c.args.names.now c.args.items.now c.args.bindings c.in_ok-element.element.bindings (λ s. ground s (term c.in_ok-element.element.ty)) c.requires c.in_ok-element.ensures c.loop-item.asked
     (items_all c.args.names.now c.args.items.now c.in_ok-element.element.bindings (term c.in_ok-element.element.ty) (names_below _ _ c.args.names.now c.in_ok-element.ensures.more c.requires) c.in_ok-element.ensures.below
     c.loop-item.asked c.loop-item.item-index c.loop-item-test.false c.loop-item.invariant))
+
+pub infer-returns-in-Name : goal.infer-returns-in-Name
+infer-returns-in-Name t c =
+    subst (λ T. IfOk c.infer_name.result (Finds T c.args.bindings))
+    (at_node c.args.names.now c.args.expr.now c.get.result.now (name c.in-Name.label) c.get.ensures (ap shape_of c.in-Name.is ∙ shape_name c.in-Name.label)) c.infer_name.ensures
+
+pub infer_name-returns-in-None : goal.infer_name-returns-in-None
+infer_name-returns-in-None t c =
+    finds_same (λ s u. IsType u × natives c.args.label.now (type_is u)) (ShapeOf c.args.names.now (name c.args.label.now)) c.args.bindings c.in_ok-native_value-in-None.field-0
+    (free_is c.args.names.now c.args.label.now (subst (IsNewest c.args.label.now c.args.names.now) c.in-None.is c.newest.ensures)) c.in_ok-native_value-in-None.ensures
+
+pub infer_name-infer-requires : goal.infer_name-infer-requires
+infer_name-infer-requires t c = (
+  omega arith,
+  prefix_below _ c.args.names.now c.in-Some.place c.index-names-place.result (found_place c.args.label.now c.args.names.now c.newest.result c.in-Some.place c.in-Some.is c.newest.ensures).0 c.index-names-place.is c.requires,
+)
+
+pub infer_name-returns-in_ok-variable-in-Param : goal.infer_name-returns-in_ok-variable-in-Param
+infer_name-returns-in_ok-variable-in-Param t c =
+    instead (λ s u. IsType u × (u ≡ s.type_of c.in-Param.number)) (ShapeOf c.args.names.now (name c.args.label.now)) c.args.bindings c.in_ok-variable-in-Param.field-0.bindings (λ s. ground s (term c.in_ok-variable-in-Param.field-0.ty))
+    (param_is c.args.names.now c.args.label.now c.in-Some.place c.index-names-place.result (found_place c.args.label.now c.args.names.now c.newest.result c.in-Some.place c.in-Some.is c.newest.ensures).0 c.index-names-place.is
+    ((found_place c.args.label.now c.args.names.now c.newest.result c.in-Some.place c.in-Some.is c.newest.ensures).1 c.index-names-place.result c.index-names-place.is)
+    (found_place c.args.label.now c.args.names.now c.newest.result c.in-Some.place c.in-Some.is c.newest.ensures).2
+    c.in-Param.number c.in-Param.is) c.in_ok-variable-in-Param.ensures
+
+pub infer_name-returns-in-Assigned : goal.infer_name-returns-in-Assigned
+infer_name-returns-in-Assigned t c =
+    finds_instead (TypeOf (take c.in-Some.place c.args.names.now) c.in-Assigned.value.now) (ShapeOf c.args.names.now (name c.args.label.now)) c.args.bindings c.infer.result
+    (value_is c.args.names.now c.args.label.now c.in-Some.place c.index-names-place.result (found_place c.args.label.now c.args.names.now c.newest.result c.in-Some.place c.in-Some.is c.newest.ensures).0 c.index-names-place.is
+    ((found_place c.args.label.now c.args.names.now c.newest.result c.in-Some.place c.in-Some.is c.newest.ensures).1 c.index-names-place.result c.index-names-place.is)
+    (found_place c.args.label.now c.args.names.now c.newest.result c.in-Some.place c.in-Some.is c.newest.ensures).2
+    c.in-Assigned.value c.in-Assigned.is) c.infer.ensures
+
+pub infer_name-returns-in-Imported : goal.infer_name-returns-in-Imported
+infer_name-returns-in-Imported t c =
+    no_package c.args.names.now c.args.label.now c.in-Some.place c.index-names-place.result (found_place c.args.label.now c.args.names.now c.newest.result c.in-Some.place c.in-Some.is c.newest.ensures).0 c.index-names-place.is
+    ((found_place c.args.label.now c.args.names.now c.newest.result c.in-Some.place c.in-Some.is c.newest.ensures).1 c.index-names-place.result c.index-names-place.is)
+    (found_place c.args.label.now c.args.names.now c.newest.result c.in-Some.place c.in-Some.is c.newest.ensures).2
+    c.in-Imported.field-0 c.in-Imported.is c.args.bindings
+
+pub infer-returns-in-Chain : goal.infer-returns-in-Chain
+infer-returns-in-Chain t c =
+    subst (λ T. IfOk c.infer_chain.result (Finds T c.args.bindings))
+    (ap (λ ls. ShapeOf c.args.names.now (chain (tree_of c.in-Chain.first) (links_of (map link ls)))) c.as_slice.ensures
+    ∙ at_node c.args.names.now c.args.expr.now c.get.result.now (chain (tree_of c.in-Chain.first) (links_of (map link c.in-Chain.rest))) c.get.ensures (ap shape_of c.in-Chain.is ∙ shape_chain c.in-Chain.first c.in-Chain.rest)) c.infer_chain.ensures
+
+pub infer_chain-loop-next-init : goal.infer_chain-loop-next-init
+infer_chain-loop-next-init t c =
+    chain_start c.args.names.now c.args.first.now c.args.rest.now c.args.bindings c.in-Some.found.bindings (λ s. ground s (term c.in-Some.found.ty)) (subst (Finds (TypeOf c.args.names.now c.args.first.now) c.args.bindings) c.in-Some.is c.in_ok-found.ensures)
+
+pub infer_chain-returns-in-None-2 : goal.infer_chain-returns-in-None-2
+infer_chain-returns-in-None-2 t c =
+    no_link c.args.names.now c.args.first.now c.args.rest.now c.args.bindings c.requires c.loop-next.left.bindings (λ s. ground s (term c.loop-next.left.ty)) c.loop-next.next-index c.next-item.result c.loop-next-test.true c.next-item.is c.loop-next.invariant
+    (subst (Finds (λ s u. LinkOf c.args.names.now c.next-item.result s (ground s (term c.loop-next.left.ty)) u) c.loop-next.left.bindings) c.in-None-2.is c.in_ok-found-2.ensures)
+
+pub infer_chain-loop-next-preserved : goal.infer_chain-loop-next-preserved
+infer_chain-loop-next-preserved t c =
+    chain_grow c.args.names.now c.args.first.now c.args.rest.now c.args.bindings c.requires c.loop-next.left.bindings (λ s. ground s (term c.loop-next.left.ty)) c.loop-next.next-index c.next-item.result c.loop-next-test.true c.next-item.is c.loop-next.invariant
+    c.in-Some-2.found.bindings (λ s. ground s (term c.in-Some-2.found.ty)) (subst (Finds (λ s u. LinkOf c.args.names.now c.next-item.result s (ground s (term c.loop-next.left.ty)) u) c.loop-next.left.bindings) c.in-Some-2.is c.in_ok-found-2.ensures)
+
+pub infer_chain-returns : goal.infer_chain-returns
+infer_chain-returns t c =
+    chain_found c.args.names.now c.args.first.now c.args.rest.now c.args.bindings c.requires c.loop-next.left.bindings (λ s. ground s (term c.loop-next.left.ty)) c.loop-next.next-index c.loop-next-test.false c.loop-next.invariant
+
+pub infer_link-returns-in-Some : goal.infer_link-returns-in-Some
+infer_link-returns-in-Some t c =
+    link_found c.args.names.now c.args.next.now c.args.left.bindings c.in-Some.right.bindings c.in_ok-infixed-in-Some.field-0.bindings (term c.args.left.ty) (λ s. ground s (term c.in-Some.right.ty)) (λ s. ground s (term c.in_ok-infixed-in-Some.field-0.ty)) c.requires.left
+    (subst (Finds (TypeOf c.args.names.now c.args.next.now.right) c.args.left.bindings) c.in-Some.is c.in_ok-right.ensures) c.in_ok-infixed-in-Some.ensures
