@@ -1,0 +1,10 @@
+//! Evaluation of expressions, and closures as functions of rows.
+#![tactic(auto)]
+
+mod eval;
+mod frame;
+mod parts;
+mod scope;
+
+pub use frame::{Control, Entry, Frame, Next};
+pub use scope::Scope;
