@@ -1,5 +1,5 @@
 -- The state of an evaluation as plain data, and the work that is left in it.
-use Rattle.std.specs.Prelude.{◌≡◌, ℕ, zero, suc, List, [], ◌∷◌, ◌++◌, Result, Ok, Err, map, reverse}
+use Rattle.std.specs.Prelude.{◌≡◌, ℕ, zero, suc, List, [], ◌∷◌, ◌++◌, Result, Ok, Err, map}
 use Rattle.fx_ast.specs.Shape.{body, param, params_of, tree_of}
 use Rattle.fx_ast.specs.Tree.{Tree, tree, Shape, array, call, chain, pipe, rec, Trees, no_trees, more_trees, Props, no_props, more_props, Params, no_params, more_params, Links, no_links, more_links}
 use Rattle.fx_base.specs.declared.place.Place.{Place}
@@ -96,8 +96,12 @@ frame_of (frame.Assigned e x) = plain.assigned (scope_of e.scope) x (props_past 
 frame_of frame.Returned = plain.returned
 
 -- the last frame is the first that gets a value
+abbrev pub stacked : List plain.Frame → List Frame → List plain.Frame
+stacked fs [] = fs
+stacked fs (f ∷ rest) = stacked (frame_of f ∷ fs) rest
+
 abbrev pub stack_of : List Frame → List plain.Frame
-stack_of frames = map frame_of (reverse frames)
+stack_of frames = stacked [] frames
 
 module _ (test : Tests) (limit : ℕ) (fs : List plain.Frame) where
   abbrev pub assigns_left : plain.Scope → Props → Tree → End Val

@@ -131,3 +131,10 @@ pub enum Next {
     /// A function literal is called with arguments that it takes.
     Enter(Rc<Closure>, Rc<List<Slot>>),
 }
+
+/// How far one step has come.
+#[derive(Drop)]
+pub enum Moved {
+    Done(Value),
+    Goes(Control),
+}

@@ -6,5 +6,5 @@ mod frame;
 mod parts;
 mod scope;
 
-pub use frame::{Control, Entry, Frame, Next};
+pub use frame::{Control, Entry, Frame, Moved, Next};
 pub use scope::Scope;

@@ -1,0 +1,59 @@
+-- One step after another, and what the last one says of the whole.
+use Rattle.std.proofs.Common.{◌≡◌, ℕ, zero, suc, ◌+◌, ◌≤◌, ◌<◌, List, [], ◌∷◌, ◌++◌, Result, Ok, Err, refl, sym, ap, subst, arith, ◌∙◌}
+use Rattle.fx_base.specs.declared.meter.Meter.{Meter}
+use Rattle.fx_meaning.specs.Meaning.{Tests}
+use Rattle.fx_meaning.specs.Value.{Val}
+use Rattle.fx_value.proofs.Ends.{later-later, later-zero}
+use Rattle.fx_value.specs.Ends.{End, Gives, Faults, Stuck, later}
+use Rattle.fx_rowfn.specs.Follows.{Advances, Goes, Passes, Stays}
+use Rattle.fx_rowfn.specs.Frame as plain
+use Rattle.fx_rowfn.specs.Frame.{depth}
+use Rattle.fx_rowfn.specs.State.{frame_of, left, stacked}
+use Rattle.fx_rowfn.specs.declared.frame.Control.{Control}
+use Rattle.fx_rowfn.specs.declared.frame.Frame.{Frame}
+
+pub stack_pushed : (fs : List plain.Frame) (xs : List Frame) (f : Frame) → stacked fs (xs ++ f ∷ []) ≡ frame_of f ∷ stacked fs xs
+stack_pushed fs [] f = refl
+stack_pushed fs (x ∷ xs) f = stack_pushed (frame_of x ∷ fs) xs f
+
+-- how far a run has come, in frames
+pub record Runs (test : Tests) (start : Control) (control : Control) (frames : List plain.Frame) (before now : Meter) : Type 0 where
+  pub goes : Goes (λ limit. left test limit [] start) (λ limit. left test limit frames control) before now
+  pub deep : depth frames ≤ goes.ticks
+
+pub runs_none : (test : Tests) (start : Control) (meter : Meter) → Runs test start start [] meter meter
+runs_none test start meter = record {
+  goes = record { ticks = 0; spent = omega arith; at = λ limit below. sym (later-zero (left test limit [] start)) };
+  deep = omega arith;
+}
+
+module _ (test : Tests) (start control : Control) (frames : List plain.Frame) (before now : Meter) (runs : Runs test start control frames before now) where
+  pub runs_on : (next : Control) (on : List plain.Frame) (after : Meter) → Advances test control frames next on now after → Runs test start next on before after
+  runs_on next on after a = record {
+    goes = record {
+      ticks = runs.goes.ticks + a.ticks;
+      spent = omega (arith, runs.goes.spent, a.spent);
+      at = λ limit below.
+          runs.goes.at limit (omega (arith, below)) ∙ ap (later runs.goes.ticks) (a.at limit (omega (arith, below, runs.deep)))
+          ∙ later-later runs.goes.ticks a.ticks (left test limit on next);
+    };
+    deep = omega (arith, a.deep, runs.deep);
+  }
+
+  pub runs_end : (end : End Val) (after : Meter) → Stays test control frames end now after → Goes (λ limit. left test limit [] start) (λ _. end) before after
+  runs_end end after s = record {
+    ticks = runs.goes.ticks;
+    spent = s.spent ∙ runs.goes.spent;
+    at = λ limit below. runs.goes.at limit below ∙ ap (later runs.goes.ticks) (s.at limit);
+  }
+
+  pub runs_past : (sum : ℕ) → now.budget ≡ before.budget → sum ≡ now.spent + 1 → now.budget < sum
+      → ((limit : ℕ) → depth frames < limit → (e : End Val) × (left test limit frames control ≡ later 1 e)) → Passes (λ limit. left test limit [] start) before sum
+  runs_past sum same is past at = record {
+    ticks = runs.goes.ticks + 1;
+    sum_is = omega (arith, is, runs.goes.spent);
+    past = omega (arith, same, past);
+    at = λ limit below.
+        let tick = at limit (omega (arith, below, runs.deep)) in
+        (tick.0, runs.goes.at limit (omega (arith, below)) ∙ ap (later runs.goes.ticks) tick.1 ∙ later-later runs.goes.ticks 1 tick.0);
+  }
