@@ -1,3 +1,4 @@
+pub mod FollowLaws
 pub mod FrameLaws
 pub mod PartLaws
 pub mod RunLaws

@@ -1,5 +1,6 @@
 -- One step after another, and what the last one says of the whole.
 use Rattle.std.proofs.Common.{◌≡◌, ℕ, zero, suc, ◌+◌, ◌≤◌, ◌<◌, List, [], ◌∷◌, ◌++◌, Result, Ok, Err, refl, sym, ap, subst, arith, ◌∙◌}
+use Rattle.std.specs.Prelude.{Option}
 use Rattle.fx_base.specs.declared.meter.Meter.{Meter}
 use Rattle.fx_meaning.specs.Meaning.{Tests}
 use Rattle.fx_meaning.specs.Value.{Val}
@@ -8,13 +9,13 @@ use Rattle.fx_value.specs.Ends.{End, Gives, Faults, Stuck, later}
 use Rattle.fx_rowfn.specs.Follows.{Advances, Goes, Passes, Stays}
 use Rattle.fx_rowfn.specs.Frame as plain
 use Rattle.fx_rowfn.specs.Frame.{depth}
-use Rattle.fx_rowfn.specs.State.{frame_of, left, stacked}
+use Rattle.fx_rowfn.specs.State.{frame_of, left, level_of, stacked}
 use Rattle.fx_rowfn.specs.declared.frame.Control.{Control}
 use Rattle.fx_rowfn.specs.declared.frame.Frame.{Frame}
 
-pub stack_pushed : (fs : List plain.Frame) (xs : List Frame) (f : Frame) → stacked fs (xs ++ f ∷ []) ≡ frame_of f ∷ stacked fs xs
+pub stack_pushed : (fs : List plain.Frame) (xs : List (Option Frame)) (f : Option Frame) → stacked fs (xs ++ f ∷ []) ≡ level_of f ∷ stacked fs xs
 stack_pushed fs [] f = refl
-stack_pushed fs (x ∷ xs) f = stack_pushed (frame_of x ∷ fs) xs f
+stack_pushed fs (x ∷ xs) f = stack_pushed (level_of x ∷ fs) xs f
 
 -- how far a run has come, in frames
 pub record Runs (test : Tests) (start : Control) (control : Control) (frames : List plain.Frame) (before now : Meter) : Type 0 where

@@ -12,9 +12,10 @@ use Rattle.fx_values.specs.declared.stop.Stop.{Stop}
 use Rattle.fx_values.specs.declared.stop.Stop.TheVariants as stop
 use Rattle.fx_rowfn.specs.Frame as plain
 use Rattle.fx_rowfn.specs.Frame.{depth}
-use Rattle.fx_rowfn.specs.State.{left}
+use Rattle.fx_rowfn.specs.State.{left, left_then}
 use Rattle.fx_rowfn.specs.declared.frame.Control.{Control}
 use Rattle.fx_rowfn.specs.declared.frame.Moved.{Moved}
+use Rattle.fx_rowfn.specs.declared.frame.Next.{Next}
 use Rattle.fx_rowfn.specs.declared.frame.Moved.TheVariants as moved
 
 -- under each limit that isn't below the ticks that were spent, the work is the one that is left behind these
@@ -65,3 +66,17 @@ Moves test control frames on before after (Err stop.Stuck) = Stays test control 
 Moves test control frames on before after (Err (stop.Budget sum)) =
     (sum ≡ before.spent + 1) × (before.budget < sum) × ((limit : ℕ) → depth frames < limit → (e : End Val) × (left test limit frames control ≡ later 1 e))
 Moves test control frames on before after (Err stop.Memory) = Unit {0}
+
+-- what is done next is carried out
+pub record Carried (next : Next) (frames : List plain.Frame) (now : Control) (on : List plain.Frame) (before after : Meter) : Type 0 where
+  pub ticks : ℕ
+  pub spent : after.spent ≡ before.spent + ticks
+  pub deep : depth on ≤ depth frames + ticks
+  pub at : (test : Tests) (limit : ℕ) → depth frames + ticks ≤ limit → left_then test limit frames next ≡ later ticks (left test limit on now)
+
+abbrev pub Carries : Next → List plain.Frame → List plain.Frame → Meter → Meter → Result Moved Stop → Type 0
+Carries next frames on before after (Ok (moved.Goes now)) = Carried next frames now on before after
+Carries next frames on before after (Err (stop.Budget sum)) =
+    (sum ≡ before.spent + 1) × (before.budget < sum) × ((test : Tests) (limit : ℕ) → depth frames < limit → (e : End Val) × (left_then test limit frames next ≡ later 1 e))
+Carries next frames on before after (Err stop.Memory) = Unit {0}
+Carries next frames on before after _ = ⊥

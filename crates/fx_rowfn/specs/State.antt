@@ -1,5 +1,5 @@
 -- The state of an evaluation as plain data, and the work that is left in it.
-use Rattle.std.specs.Prelude.{◌≡◌, ℕ, zero, suc, List, [], ◌∷◌, ◌++◌, Result, Ok, Err, map}
+use Rattle.std.specs.Prelude.{◌≡◌, ℕ, zero, suc, List, [], ◌∷◌, ◌++◌, Option, None, Some, Result, Ok, Err, map}
 use Rattle.fx_ast.specs.Shape.{body, param, params_of, tree_of}
 use Rattle.fx_ast.specs.Tree.{Tree, tree, Shape, array, call, chain, pipe, rec, Trees, no_trees, more_trees, Props, no_props, more_props, Params, no_params, more_params, Links, no_links, more_links}
 use Rattle.fx_base.specs.declared.place.Place.{Place}
@@ -93,14 +93,18 @@ frame_of (frame.IndexOf place v) = plain.index_of place (val v)
 frame_of (frame.Default e x) =
     plain.default_of (scope_of e.scope) (closed e.closure.value).captured (args_of e) x (params_past e.next (closed e.closure.value).params) (closed e.closure.value).lets (closed e.closure.value).result
 frame_of (frame.Assigned e x) = plain.assigned (scope_of e.scope) x (props_past e.next (closed e.closure.value).lets) (closed e.closure.value).result
-frame_of frame.Returned = plain.returned
+
+-- where there is none, a call of a function literal ends
+abbrev pub level_of : Option Frame → plain.Frame
+level_of None = plain.returned
+level_of (Some f) = frame_of f
 
 -- the last frame is the first that gets a value
-abbrev pub stacked : List plain.Frame → List Frame → List plain.Frame
+abbrev pub stacked : List plain.Frame → List (Option Frame) → List plain.Frame
 stacked fs [] = fs
-stacked fs (f ∷ rest) = stacked (frame_of f ∷ fs) rest
+stacked fs (f ∷ rest) = stacked (level_of f ∷ fs) rest
 
-abbrev pub stack_of : List Frame → List plain.Frame
+abbrev pub stack_of : List (Option Frame) → List plain.Frame
 stack_of frames = stacked [] frames
 
 module _ (test : Tests) (limit : ℕ) (fs : List plain.Frame) where

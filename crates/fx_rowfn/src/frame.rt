@@ -96,7 +96,6 @@ pub enum Frame {
         entry: Entry,
         label: Text,
     },
-    Returned,
 }
 
 /// A call of a function literal, as far as it has come: the scope has the parameters and

@@ -2,6 +2,7 @@
 #![tactic(auto)]
 
 mod eval;
+mod follow;
 mod frame;
 mod parts;
 mod scope;
