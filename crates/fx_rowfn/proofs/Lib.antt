@@ -1,4 +1,5 @@
 pub mod FollowLaws
 pub mod FrameLaws
+pub mod MoveLaws
 pub mod PartLaws
 pub mod RunLaws

@@ -1,8 +1,14 @@
 //! What is done next, carried out over the frames.
-ghost use Rattle.fx_rowfn.specs.Follows.{Carries};
-ghost use Rattle.std.specs.Prelude.{◌≡◌, IfOk};
+ghost use Rattle.fx_rowfn.specs.Follows.{Carries, Moves};
+ghost use Rattle.std.specs.Prelude.{◌≡◌, ℕ, List, IfOk};
+ghost use Rattle.fx_meaning.specs.Meaning.{Tests};
+ghost use Rattle.fx_meaning.specs.Value.{Val};
+ghost use Rattle.fx_value.specs.Ends.{End};
+ghost use Rattle.fx_rowfn.specs.Frame as plain;
+ghost use Rattle.fx_rowfn.specs.Frame.{depth};
+ghost use Rattle.fx_rowfn.specs.declared.frame.Control.{Control};
 ghost use Rattle.fx_values.specs.Shape.{closed};
-ghost use Rattle.fx_rowfn.specs.State.{scope_of, stack_of};
+ghost use Rattle.fx_rowfn.specs.State.{Leads, left, scope_of, stack_of};
 ghost use Rattle.fx_rowfn.specs.declared.frame.Next.TheVariants as next;
 ghost use Rattle.fx_value.specs.Calls.{IsMetered, IsReady};
 
@@ -74,4 +80,21 @@ fn called_in(alloc: Global, closure: &Closure) -> Result<Scope, Memory>
         inner: Rc::new(alloc, List::empty(alloc))?,
         setting: closure.setting.clone()?,
     })
+}
+
+/// What is done next is carried out, where it is known.
+pub(crate) fn taken(
+    alloc: Global,
+    next: Result<Next, Stop>,
+    frames: &mut Vec<Option<Frame>>,
+    meter: &mut Meter,
+) -> Result<Moved, Stop>
+    requires ready { IsReady meter.old }
+    ensures metered { IsMetered meter.old meter.new }
+    ensures moves { (test : Tests) (control : Control) (start : List plain.Frame) (work : ℕ → List plain.Frame → End Val) → depth (stack_of frames.old.items) ≡ depth start → ((limit : ℕ) → left test limit start control ≡ work limit (stack_of frames.old.items)) → Leads work test next → Moves test control start (stack_of frames.new.items) meter.old meter.new result }
+{
+    match next {
+        Ok(next) => follow(alloc, next, frames, meter),
+        Err(stop) => Err(stop),
+    }
 }

@@ -1,5 +1,5 @@
-use Rattle.std.proofs.Common.{map, arith}
-use Rattle.fx_values.specs.Shape.{slot, slots_of}
+use Rattle.std.proofs.Common.{map, ap, arith, ◌∙◌}
+use Rattle.fx_values.specs.Shape.{closed, slot, slots_of}
 use Rattle.fx_rowfn.specs.State.{stack_of}
 use Rattle.fx_rowfn.proofs.FollowLaws.{enter_carried, enter_ticks}
 use Rattle.fx_rowfn.proofs.follow.enter.Goals as goal
@@ -7,7 +7,8 @@ use Rattle.fx_rowfn.proofs.follow.enter.Goals as goal
 pub returns-in_ok-scope-in-Ok-clause-carries : goal.returns-in_ok-scope-in-Ok-clause-carries
 returns-in_ok-scope-in-Ok-clause-carries c =
     enter_carried c.args.closure c.args.args c.in_ok-scope-in-Ok.scope c.args.frames.now.items c.push.new.self.items c.args.meter.now c.spend.new.self
-    c.in_ok-push-in-Ok.ensures.items c.in-Ok.ensures.ok.0 c.in_ok-scope-in-Ok.ensures
+    c.in_ok-push-in-Ok.ensures.items c.in-Ok.ensures.ok.0
+    (c.in_ok-scope-in-Ok.ensures ∙ ap (λ k. record { env = (closed k).captured; setting = (closed k).setting }) c.deref.ensures)
 
 pub returns-in-Err-clause-carries : goal.returns-in-Err-clause-carries
 returns-in-Err-clause-carries c =
