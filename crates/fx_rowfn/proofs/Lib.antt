@@ -1,5 +1,6 @@
 pub mod FollowLaws
 pub mod FrameLaws
 pub mod MoveLaws
+pub mod NodeLaws
 pub mod PartLaws
 pub mod RunLaws

@@ -135,6 +135,13 @@ tree_left test scope e limit fs = means test (calls_above test limit fs) scope.s
 abbrev pub shape_left : Tests → plain.Scope → Place → Shape → ℕ → List plain.Frame → End Val
 shape_left test scope place s limit fs = means_shape test (calls_above test limit fs) scope.setting place s scope.env >>= unwound test limit fs
 
+-- what becomes of a value at a frame, and then at those below
+abbrev pub resumed_left : Tests → plain.Frame → Val → ℕ → List plain.Frame → End Val
+resumed_left test f v limit fs = plain.resumed test (calls_above test limit fs) f v >>= unwound test limit fs
+
+abbrev pub control_left : Tests → Control → ℕ → List plain.Frame → End Val
+control_left test c limit fs = left test limit fs c
+
 abbrev pub left_then : Tests → ℕ → List plain.Frame → Next → End Val
 left_then test limit fs (next.Go c) = left test limit fs c
 left_then test limit fs (next.Await f c) = left test limit (frame_of f ∷ fs) c

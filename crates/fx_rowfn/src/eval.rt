@@ -3,7 +3,8 @@ ghost use Rattle.std.specs.Prelude.{◌≡◌, IfOk};
 ghost use Rattle.fx_ast.specs.Shape.{links_of, link, props_of, prop, trees_of, shape_of, tree_of};
 ghost use Rattle.fx_ast.specs.Tree.{array, call, chain, if_then, index, member, pipe, prefix};
 ghost use Rattle.fx_meaning.specs.Meaning.{Tests};
-ghost use Rattle.fx_meaning.specs.Value.{Val};
+ghost use Rattle.fx_meaning.specs.Ends.{pure};
+ghost use Rattle.fx_meaning.specs.Value.{Val, cell};
 ghost use Rattle.fx_rowfn.specs.Frame as plain;
 ghost use Rattle.fx_rowfn.specs.Frame.{unwound};
 ghost use Rattle.fx_rowfn.specs.State.{Leads, frame_of, links_from, scope_of, shape_left, tree_left};
@@ -15,9 +16,11 @@ ghost use Rattle.fx_values.specs.Told.{Tells};
 
 use crate::frame::{Control, Frame, Next};
 use crate::scope::Scope;
-use fx_ast::{Expr, Prefix};
+use fx_ast::{Expr, Node, Prefix};
 use fx_base::{Memory, Place, Text};
+use fx_value::Scalar;
 use fx_values::{Stop, Value};
+use std::alloc::Global;
 
 /// A value is there.
 pub(crate) fn given(told: Result<Value, Stop>) -> Result<Next, Stop>
@@ -119,4 +122,29 @@ fn left_of(scope: &Scope, whole: &Expr) -> Result<Frame, Memory>
         scope: scope.copy()?,
         chain: whole.copy()?,
     })
+}
+
+/// The first step of an expression.
+pub(crate) fn evaluated(alloc: Global, scope: Scope, expr: &Expr) -> Result<Next, Stop>
+    ensures { (test : Tests) → Leads (tree_left test (scope_of scope) (tree_of expr.now)) test result }
+{
+    match expr.node.get() {
+        Node::Int(n) => constant(Scalar::Int(*n)),
+        Node::Time(t) => constant(Scalar::Time(*t)),
+        Node::Span(d) => Ok(Next::Go(Control::Give(Value::Span(*d)))),
+        Node::Paren(of) => inner(scope, of),
+        Node::Member { of, label } => member(scope, expr.place, of, label),
+        Node::Index { of, at } => indexed(scope, expr.place, of, at),
+        Node::Chain { first, .. } => chained(scope, expr, first),
+        Node::Prefix { sign, of } => signed(scope, expr.place, *sign, of),
+        Node::If { test, yes, no } => decision(scope, expr.place, test, yes, no),
+        _ => Err(Stop::Memory),
+    }
+}
+
+/// A scalar as it stands.
+fn constant(value: Scalar) -> Result<Next, Stop>
+    ensures { (test : Tests) → Leads (λ limit fs. and_then (pure (cell value)) (unwound test limit fs)) test result }
+{
+    given(Ok(Value::Cell(value)))
 }
