@@ -28,7 +28,7 @@ use Rattle.fx_rowfn.specs.declared.scope.Scope.{Scope}
 use Rattle.fx_rowfn.proofs.RunLaws.{stack_pushed}
 
 -- no call ends where a value is awaited
-waits : (f : Frame) (n : ℕ) → plain.deeper (frame_of f) n ≡ n
+pub waits : (f : Frame) (n : ℕ) → plain.deeper (frame_of f) n ≡ n
 waits (frame.Sign a b) n = refl
 waits (frame.Branch a b c) n = refl
 waits (frame.LeftOf a b) n = refl
@@ -46,7 +46,7 @@ waits (frame.IndexOf a b) n = refl
 waits (frame.Default a b) n = refl
 waits (frame.Assigned a b) n = refl
 
-one_more : (old new : List (Option Frame)) (f : Option Frame) → new ≡ old ++ f ∷ [] → stack_of new ≡ level_of f ∷ stack_of old
+pub one_more : (old new : List (Option Frame)) (f : Option Frame) → new ≡ old ++ f ∷ [] → stack_of new ≡ level_of f ∷ stack_of old
 one_more old new f is = ap stack_of is ∙ stack_pushed [] old f
 
 pub gone_carried : (n : Next) (c : Control) (frames : List (Option Frame)) (m : Meter) → n ≡ next.Go c → Carried n (stack_of frames) c (stack_of frames) m m

@@ -5,8 +5,12 @@ use Rattle.fx_base.specs.declared.meter.Meter.{Meter}
 use Rattle.fx_meaning.specs.Meaning.{Tests}
 use Rattle.fx_meaning.specs.Value.{Val}
 use Rattle.fx_value.proofs.Ends.{later-later, later-zero}
+use Rattle.fx_value.specs.Calls.{IsMetered}
 use Rattle.fx_value.specs.Ends.{End, Gives, Faults, Stuck, later}
-use Rattle.fx_rowfn.specs.Follows.{Advances, Goes, Passes, Stays}
+use Rattle.fx_values.specs.Shape.{val}
+use Rattle.fx_values.specs.declared.stop.Stop.{Stop}
+use Rattle.fx_values.specs.declared.stop.Stop.TheVariants as stop
+use Rattle.fx_rowfn.specs.Follows.{Advances, Follows, Goes, Moves, Passes, Stays}
 use Rattle.fx_rowfn.specs.Frame as plain
 use Rattle.fx_rowfn.specs.Frame.{depth}
 use Rattle.fx_rowfn.specs.State.{frame_of, left, level_of, stacked}
@@ -16,6 +20,13 @@ use Rattle.fx_rowfn.specs.declared.frame.Frame.{Frame}
 pub stack_pushed : (fs : List plain.Frame) (xs : List (Option Frame)) (f : Option Frame) → stacked fs (xs ++ f ∷ []) ≡ level_of f ∷ stacked fs xs
 stack_pushed fs [] f = refl
 stack_pushed fs (x ∷ xs) f = stack_pushed (level_of x ∷ fs) xs f
+
+pub metered_on : (before now after : Meter) → IsMetered before now → IsMetered now after → IsMetered before after
+metered_on before now after first then = record {
+  budget = then.budget ∙ first.budget;
+  kept = omega (arith, first.kept, then.kept);
+  spent = omega (arith, then.spent, first.budget);
+}
 
 -- how far a run has come, in frames
 pub record Runs (test : Tests) (start : Control) (control : Control) (frames : List plain.Frame) (before now : Meter) : Type 0 where
@@ -58,3 +69,10 @@ module _ (test : Tests) (start control : Control) (frames : List plain.Frame) (b
         let tick = at limit (omega (arith, below, runs.deep)) in
         (tick.0, runs.goes.at limit (omega (arith, below)) ∙ ap (later runs.goes.ticks) tick.1 ∙ later-later runs.goes.ticks 1 tick.0);
   }
+
+  pub runs_stop : (on : List plain.Frame) (after : Meter) (why : Stop) → now.budget ≡ before.budget → Moves test control frames on now after (Err why)
+      → Follows val (λ limit. left test limit [] start) before after (Err why)
+  runs_stop on after (stop.Fault f) same m = runs_end (Faults f 0) after m
+  runs_stop on after stop.Stuck same m = runs_end Stuck after m
+  runs_stop on after (stop.Budget sum) same m = runs_past sum same m.0 m.1 m.2
+  runs_stop on after stop.Memory same m = tt

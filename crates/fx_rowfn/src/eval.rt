@@ -4,7 +4,8 @@ ghost use Rattle.fx_ast.specs.Shape.{links_of, link, props_of, prop, trees_of, s
 ghost use Rattle.fx_ast.specs.Tree.{array, call, chain, if_then, index, member, pipe, prefix};
 ghost use Rattle.fx_meaning.specs.Meaning.{Tests};
 ghost use Rattle.fx_meaning.specs.Ends.{pure};
-ghost use Rattle.fx_meaning.specs.Value.{Val, cell};
+ghost use Rattle.fx_meaning.specs.Value.{Val, cell, span};
+ghost use Rattle.fx_value.specs.declared.scalar.Scalar.TheVariants as scalar;
 ghost use Rattle.fx_rowfn.specs.Frame as plain;
 ghost use Rattle.fx_rowfn.specs.Frame.{unwound};
 ghost use Rattle.fx_rowfn.specs.State.{Leads, frame_of, links_from, scope_of, shape_left, tree_left};
@@ -18,6 +19,7 @@ use crate::frame::{Control, Frame, Next};
 use crate::scope::Scope;
 use fx_ast::{Expr, Node, Prefix};
 use fx_base::{Memory, Place, Text};
+use fx_time::Span;
 use fx_value::Scalar;
 use fx_values::{Stop, Value};
 use std::alloc::Global;
@@ -129,9 +131,9 @@ pub(crate) fn evaluated(alloc: Global, scope: Scope, expr: &Expr) -> Result<Next
     ensures { (test : Tests) → Leads (tree_left test (scope_of scope) (tree_of expr.now)) test result }
 {
     match expr.node.get() {
-        Node::Int(n) => constant(Scalar::Int(*n)),
-        Node::Time(t) => constant(Scalar::Time(*t)),
-        Node::Span(d) => Ok(Next::Go(Control::Give(Value::Span(*d)))),
+        Node::Int(n) => constant(integer(n)),
+        Node::Time(t) => constant(moment(t)),
+        Node::Span(d) => duration(*d),
         Node::Paren(of) => inner(scope, of),
         Node::Member { of, label } => member(scope, expr.place, of, label),
         Node::Index { of, at } => indexed(scope, expr.place, of, at),
@@ -147,4 +149,23 @@ fn constant(value: Scalar) -> Result<Next, Stop>
     ensures { (test : Tests) → Leads (λ limit fs. and_then (pure (cell value)) (unwound test limit fs)) test result }
 {
     given(Ok(Value::Cell(value)))
+}
+
+fn integer(n: &i64) -> Scalar
+    ensures { result ≡ scalar.Int n.now }
+{
+    Scalar::Int(*n)
+}
+
+fn moment(t: &i64) -> Scalar
+    ensures { result ≡ scalar.Time t.now }
+{
+    Scalar::Time(*t)
+}
+
+/// A duration as it stands.
+fn duration(d: Span) -> Result<Next, Stop>
+    ensures { (test : Tests) → Leads (λ limit fs. and_then (pure (span d)) (unwound test limit fs)) test result }
+{
+    given(Ok(Value::Span(d)))
 }

@@ -1,23 +1,24 @@
-use Rattle.std.proofs.Common.{sym, ap, ◌∙◌, map}
-use Rattle.std.specs.Prelude.{Ok}
+use Rattle.std.proofs.Common.{sym, ap, subst, ◌∙◌, map}
 use Rattle.fx_ast.proofs.ShapeLaws.{shape_chain, shape_if, shape_index, shape_int, shape_member, shape_paren, shape_prefix, shape_span, shape_time}
 use Rattle.fx_ast.specs.Shape.{link, links_of, shape_of, tree_of}
 use Rattle.fx_ast.specs.Tree.{chain, if_then, index, int, member, paren, prefix, span, time}
-use Rattle.fx_value.proofs.Ends.{later-zero}
-use Rattle.fx_values.proofs.ValueLaws.{val_span}
+use Rattle.fx_value.specs.Ends.{and_then}
+use Rattle.fx_meaning.specs.Ends.{pure}
 use Rattle.fx_meaning.specs.Value as value
 use Rattle.fx_rowfn.specs.Frame.{unwound}
-use Rattle.fx_rowfn.specs.State.{links_from, scope_of}
+use Rattle.fx_rowfn.specs.State.{Leads, links_from, scope_of}
 use Rattle.fx_rowfn.proofs.NodeLaws.{by_node, first_links}
 use Rattle.fx_rowfn.proofs.eval.evaluated.Goals as goal
 
 pub returns-in-Int : goal.returns-in-Int
 returns-in-Int c =
-    by_node c.args.expr.now (scope_of c.args.scope) (int c.in-Int.n) c.constant.result (ap shape_of (sym c.get.ensures ∙ c.in-Int.is) ∙ shape_int c.in-Int.n) c.constant.ensures
+    by_node c.args.expr.now (scope_of c.args.scope) (int c.in-Int.n) c.constant.result (ap shape_of (sym c.get.ensures ∙ c.in-Int.is) ∙ shape_int c.in-Int.n)
+    (λ test. subst (λ a. Leads (λ limit fs. and_then (pure (value.cell a)) (unwound test limit fs)) test c.constant.result) c.integer.ensures (c.constant.ensures test))
 
 pub returns-in-Time : goal.returns-in-Time
 returns-in-Time c =
-    by_node c.args.expr.now (scope_of c.args.scope) (time c.in-Time.t) c.constant-in-Time.result (ap shape_of (sym c.get.ensures ∙ c.in-Time.is) ∙ shape_time c.in-Time.t) c.constant-in-Time.ensures
+    by_node c.args.expr.now (scope_of c.args.scope) (time c.in-Time.t) c.constant-in-Time.result (ap shape_of (sym c.get.ensures ∙ c.in-Time.is) ∙ shape_time c.in-Time.t)
+    (λ test. subst (λ a. Leads (λ limit fs. and_then (pure (value.cell a)) (unwound test limit fs)) test c.constant-in-Time.result) c.moment.ensures (c.constant-in-Time.ensures test))
 
 pub returns-in-Paren : goal.returns-in-Paren
 returns-in-Paren c =
@@ -47,5 +48,4 @@ returns-in-Chain c =
 
 pub returns-in-Span : goal.returns-in-Span
 returns-in-Span c =
-    by_node c.args.expr.now (scope_of c.args.scope) (span c.in-Span.d) (Ok _) (ap shape_of (sym c.get.ensures ∙ c.in-Span.is) ∙ shape_span c.in-Span.d)
-    (λ test limit fs. later-zero (unwound test limit fs (value.span c.in-Span.d)) ∙ ap (unwound test limit fs) (sym (val_span c.in-Span.d)))
+    by_node c.args.expr.now (scope_of c.args.scope) (span c.in-Span.d) c.duration.result (ap shape_of (sym c.get.ensures ∙ c.in-Span.is) ∙ shape_span c.in-Span.d) c.duration.ensures
