@@ -1,3 +1,4 @@
+pub mod AnswerLaws
 pub mod FollowLaws
 pub mod FrameLaws
 pub mod MoveLaws

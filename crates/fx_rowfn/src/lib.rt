@@ -3,6 +3,7 @@
 
 mod enter;
 mod eval;
+mod expression;
 mod follow;
 mod frame;
 mod parts;
@@ -10,5 +11,6 @@ mod resume;
 mod run;
 mod scope;
 
+pub use expression::evaluate;
 pub use frame::{Control, Entry, Frame, Moved, Next};
 pub use scope::Scope;
