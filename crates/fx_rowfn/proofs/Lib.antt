@@ -4,4 +4,5 @@ pub mod FrameLaws
 pub mod MoveLaws
 pub mod NodeLaws
 pub mod PartLaws
+pub mod ResumeLaws
 pub mod RunLaws

@@ -10,3 +10,8 @@ returns-in-Sign-clause-leads g c =
     let test = hears c.args.known.now (g.P.Patterns.test c.args.patterns.now) in
     subst (λ f. Leads (resumed_left test (frame_of f) (val c.args.value)) test c.given.result) (sym c.in-Sign.is)
     (c.given.ensures test (prefixed c.in-Sign.place c.in-Sign.sign (val c.args.value)) c.prefixed.ensures)
+
+pub returns-in-Branch-clause-leads : goal.returns-in-Branch-clause-leads
+returns-in-Branch-clause-leads g c =
+    let test = hears c.args.known.now (g.P.Patterns.test c.args.patterns.now) in
+    subst (λ f. Leads (resumed_left test (frame_of f) (val c.args.value)) test c.branched.result) (sym c.in-Branch.is) (c.branched.ensures test)
