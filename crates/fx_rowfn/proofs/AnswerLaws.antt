@@ -1,6 +1,6 @@
 -- From the work of an expression to its meaning under a limit.
-use Rattle.std.proofs.Common.{◌≡◌, ℕ, ◌+◌, ◌≤◌, ◌<◌, Bool, true, false, List, [], add-zero, refl, sym, ap, subst, arith, ◌∙◌}
-use Rattle.std.specs.Prelude.{◌-◌, cond, nat_le, Result, Ok, Err}
+use Rattle.std.proofs.Common.{◌≡◌, ℕ, ◌+◌, ◌≤◌, Bool, true, false, [], add-zero, sym, ap, subst, arith, ◌∙◌}
+use Rattle.std.specs.Prelude.{◌-◌, cond, nat_le, Err}
 use Rattle.std.proofs.lemmas.Bool.{le-leb}
 use Rattle.fx_ast.specs.Shape.{tree_of}
 use Rattle.fx_ast.specs.declared.expr.Expr.{Expr}
@@ -11,7 +11,7 @@ use Rattle.fx_meaning.specs.Meaning.{Tests, meaning, means, nested}
 use Rattle.fx_meaning.specs.Value.{Val}
 use Rattle.fx_value.proofs.Ends.{then-gives}
 use Rattle.fx_value.specs.Calls.{Ended, Exceeded}
-use Rattle.fx_value.specs.Ends.{End, Gives, Faults, Stuck, More, IsLimited, NeverStuck, Stays, cut, later}
+use Rattle.fx_value.specs.Ends.{End, Gives, Faults, Stuck, More, NeverStuck, Stays, cut, later}
 use Rattle.fx_values.specs.Shape.{val}
 use Rattle.fx_values.specs.declared.stop.Stop.{Stop}
 use Rattle.fx_values.specs.declared.stop.Stop.TheVariants as stop

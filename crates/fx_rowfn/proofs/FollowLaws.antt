@@ -1,5 +1,5 @@
 -- What is done next, carried out over the frames.
-use Rattle.std.proofs.Common.{◌≡◌, ℕ, suc, ◌+◌, ◌≤◌, ◌<◌, List, [], ◌∷◌, ◌++◌, map, refl, sym, ap, arith, ◌∙◌}
+use Rattle.std.proofs.Common.{◌≡◌, ℕ, suc, ◌+◌, ◌<◌, List, [], ◌∷◌, ◌++◌, map, refl, sym, ap, arith, ◌∙◌}
 use Rattle.std.specs.Prelude.{◌-◌, Option, None, Some}
 use Rattle.std.specs.declared.alloc.Global.{Global}
 use Rattle.std.specs.declared.rc.Rc.{Rc}
@@ -19,7 +19,6 @@ use Rattle.fx_rowfn.specs.Frame.{calls_above, depth, unwound}
 use Rattle.fx_rowfn.specs.State.{bound_left, entered_left, frame_of, left, left_then, level_of, scope_of, stack_of}
 use Rattle.fx_rowfn.specs.declared.frame.Control.{Control}
 use Rattle.fx_rowfn.specs.declared.frame.Control.TheVariants as control
-use Rattle.fx_rowfn.specs.declared.frame.Entry.{Entry}
 use Rattle.fx_rowfn.specs.declared.frame.Frame.{Frame}
 use Rattle.fx_rowfn.specs.declared.frame.Frame.TheVariants as frame
 use Rattle.fx_rowfn.specs.declared.frame.Next.{Next}

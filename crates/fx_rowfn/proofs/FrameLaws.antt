@@ -1,19 +1,19 @@
 -- Each step of an evaluation leaves the work that is left as it was, but for a tick.
-use Rattle.std.proofs.Common.{◌≡◌, ℕ, zero, suc, ◌≤◌, ◌<◌, Bool, true, false, List, [], ◌∷◌, Option, None, Some, refl, sym, ap, arith, ◌∙◌}
+use Rattle.std.proofs.Common.{◌≡◌, ℕ, suc, ◌<◌, true, false, List, ◌∷◌, Option, None, Some, sym, ap, arith, ◌∙◌}
 use Rattle.std.specs.Prelude.{◌-◌, ℤ, if◌then◌else◌}
 use Rattle.fx_ast.specs.Places.{first_place}
-use Rattle.fx_ast.specs.Tree.{Tree, tree, Shape, int, time, span, text, pattern, name, paren, array, rec, fun, call, pipe, member, index, chain, prefix, if_then, Trees, no_trees, more_trees, Parts, no_parts, piece, hole, Props, no_props, more_props, Params, no_params, more_params, Default, required, by_pipe, by_value, Links, no_links, more_links}
+use Rattle.fx_ast.specs.Tree.{Tree, tree, Shape, array, call, pipe, member, index, chain, prefix, if_then, Trees, more_trees, Parts, hole, Props, no_props, more_props, Params, no_params, more_params, Default, required, by_pipe, by_value, Links, more_links}
 use Rattle.fx_ast.specs.declared.expr.Infix.{Infix}
 use Rattle.fx_ast.specs.declared.expr.Prefix.{Prefix}
 use Rattle.fx_base.specs.declared.place.Place.{Place}
-use Rattle.fx_value.proofs.Ends.{later-zero, then-gives, then-later, then-then}
-use Rattle.fx_value.specs.Ends.{End, Gives, Faults, Stuck, More, later, and_then}
+use Rattle.fx_value.proofs.Ends.{later-zero, then-later, then-then}
+use Rattle.fx_value.specs.Ends.{End, Gives, Stuck, later}
 use Rattle.fx_value.specs.declared.scalar.Scalar.{Scalar}
 use Rattle.fx_meaning.specs.declared.setting.Setting.{Setting}
 use Rattle.fx_meaning.specs.Ends.{◌>>=◌, pure, found}
-use Rattle.fx_meaning.specs.Forms.{cell_in, fields_in, items_in, truth_in}
-use Rattle.fx_meaning.specs.Meaning.{Calls, Tests, applied_to, bound, entered, given, given_or, means, means_lets, means_links, means_parts, means_pipe, means_pipes, means_piped, means_props, means_shape, means_trees, named, nested, piped_to, takes}
-use Rattle.fx_meaning.specs.Operators.{behind, decides, indexed, member_of, operate, prefixed, printed, text_made}
+use Rattle.fx_meaning.specs.Forms.{cell_in, truth_in}
+use Rattle.fx_meaning.specs.Meaning.{Calls, Tests, applied_to, bound, entered, given, given_or, means, means_lets, means_links, means_parts, means_pipe, means_pipes, means_props, means_shape, means_trees, nested, piped_to, takes}
+use Rattle.fx_meaning.specs.Operators.{behind, decides, member_of, operate, prefixed, printed, text_made}
 use Rattle.fx_meaning.specs.Value as value
 use Rattle.fx_meaning.specs.Value.{Label, Slots, Val, Vals, look, no_slots, no_vals, push, push_val}
 use Rattle.fx_rowfn.specs.Frame as frame

@@ -1,5 +1,5 @@
 -- One step: what is done next, and what that is over the frames.
-use Rattle.std.proofs.Common.{◌≡◌, ℕ, ◌+◌, ◌≤◌, ◌<◌, List, [], ◌∷◌, Result, Ok, Err, refl, sym, ap, subst, arith, ◌∙◌}
+use Rattle.std.proofs.Common.{◌≡◌, ℕ, List, Result, Ok, Err, arith, ◌∙◌}
 use Rattle.fx_base.specs.declared.meter.Meter.{Meter}
 use Rattle.fx_meaning.specs.Meaning.{Tests}
 use Rattle.fx_meaning.specs.Value.{Val}
@@ -9,7 +9,7 @@ use Rattle.fx_values.specs.declared.stop.Stop.TheVariants as stop
 use Rattle.fx_rowfn.specs.Follows.{Carries, Moves}
 use Rattle.fx_rowfn.specs.Frame as plain
 use Rattle.fx_rowfn.specs.Frame.{depth}
-use Rattle.fx_rowfn.specs.State.{Leads, left, left_then}
+use Rattle.fx_rowfn.specs.State.{Leads, left}
 use Rattle.fx_rowfn.specs.declared.frame.Control.{Control}
 use Rattle.fx_rowfn.specs.declared.frame.Moved.{Moved}
 use Rattle.fx_rowfn.specs.declared.frame.Moved.TheVariants as moved

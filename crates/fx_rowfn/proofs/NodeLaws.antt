@@ -1,8 +1,8 @@
 -- The work of a tree, by its node.
-use Rattle.std.proofs.Common.{◌≡◌, subst, sym, ap, ◌∙◌, map, List}
+use Rattle.std.proofs.Common.{◌≡◌, subst, sym, ap, ◌∙◌}
 use Rattle.std.specs.Prelude.{Result}
 use Rattle.fx_ast.proofs.ShapeLaws.{tree_is}
-use Rattle.fx_ast.specs.Shape.{link, links_of, shape_of, tree_of}
+use Rattle.fx_ast.specs.Shape.{shape_of, tree_of}
 use Rattle.fx_ast.specs.Tree.{Links, Shape, Tree, chain, tree}
 use Rattle.fx_ast.specs.declared.expr.Expr.{Expr}
 use Rattle.fx_meaning.specs.Meaning.{Tests}

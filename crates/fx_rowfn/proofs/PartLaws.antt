@@ -6,7 +6,7 @@ use Rattle.std.specs.List.{HoldsAt}
 use Rattle.std.specs.Option.{IfSome, MatchOption}
 use Rattle.fx_ast.proofs.ShapeLaws.{shape_int, shape_time, shape_span, shape_text, shape_pattern, shape_name, shape_paren, shape_array, shape_rec, shape_fun, shape_call, shape_pipe, shape_member, shape_index, shape_chain, shape_prefix, shape_if, tree_is}
 use Rattle.fx_ast.specs.Shape.{link, links_of, prop, props_of, shape_of, tree_of, trees_of}
-use Rattle.fx_ast.specs.Tree.{Shape, Trees, no_trees, more_trees, Props, no_props, more_props, Links, no_links, more_links}
+use Rattle.fx_ast.specs.Tree.{Shape, no_trees, more_trees, no_props, more_props, no_links, more_links}
 use Rattle.fx_ast.specs.declared.expr.Body.{Body}
 use Rattle.fx_ast.specs.declared.expr.Expr.{Expr}
 use Rattle.fx_ast.specs.declared.expr.Link.{Link}

@@ -1,5 +1,5 @@
 -- What a frame makes of a value, where a rule tells of it.
-use Rattle.std.proofs.Common.{◌≡◌, ℕ, Bool, true, false, List, sym, ap, ◌∙◌}
+use Rattle.std.proofs.Common.{◌≡◌, ℕ, Bool, true, false, List, ap, ◌∙◌}
 use Rattle.std.specs.Prelude.{Err, if◌then◌else◌}
 use Rattle.fx_ast.specs.Shape.{tree_of}
 use Rattle.fx_ast.specs.declared.expr.Expr.{Expr}

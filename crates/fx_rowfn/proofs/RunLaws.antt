@@ -1,19 +1,19 @@
 -- One step after another, and what the last one says of the whole.
-use Rattle.std.proofs.Common.{◌≡◌, ℕ, zero, suc, ◌+◌, ◌≤◌, ◌<◌, List, [], ◌∷◌, ◌++◌, Result, Ok, Err, refl, sym, ap, subst, arith, ◌∙◌}
+use Rattle.std.proofs.Common.{◌≡◌, ℕ, ◌+◌, ◌≤◌, ◌<◌, List, [], ◌∷◌, ◌++◌, Err, refl, sym, ap, arith, ◌∙◌}
 use Rattle.std.specs.Prelude.{Option}
 use Rattle.fx_base.specs.declared.meter.Meter.{Meter}
 use Rattle.fx_meaning.specs.Meaning.{Tests}
 use Rattle.fx_meaning.specs.Value.{Val}
 use Rattle.fx_value.proofs.Ends.{later-later, later-zero}
 use Rattle.fx_value.specs.Calls.{IsMetered}
-use Rattle.fx_value.specs.Ends.{End, Gives, Faults, Stuck, later}
+use Rattle.fx_value.specs.Ends.{End, Faults, Stuck, later}
 use Rattle.fx_values.specs.Shape.{val}
 use Rattle.fx_values.specs.declared.stop.Stop.{Stop}
 use Rattle.fx_values.specs.declared.stop.Stop.TheVariants as stop
 use Rattle.fx_rowfn.specs.Follows.{Advances, Follows, Goes, Moves, Passes, Stays}
 use Rattle.fx_rowfn.specs.Frame as plain
 use Rattle.fx_rowfn.specs.Frame.{depth}
-use Rattle.fx_rowfn.specs.State.{frame_of, left, level_of, stacked}
+use Rattle.fx_rowfn.specs.State.{left, level_of, stacked}
 use Rattle.fx_rowfn.specs.declared.frame.Control.{Control}
 use Rattle.fx_rowfn.specs.declared.frame.Frame.{Frame}
 

@@ -1,6 +1,6 @@
 -- The state of an evaluation as plain data, and the work that is left in it.
 use Rattle.std.specs.Prelude.{◌≡◌, ℕ, zero, suc, List, [], ◌∷◌, ◌++◌, Option, None, Some, Result, Ok, Err, map}
-use Rattle.fx_ast.specs.Shape.{body, param, params_of, tree_of}
+use Rattle.fx_ast.specs.Shape.{tree_of}
 use Rattle.fx_ast.specs.Tree.{Tree, tree, Shape, array, call, chain, pipe, rec, Trees, no_trees, more_trees, Props, no_props, more_props, Params, no_params, more_params, Links, no_links, more_links}
 use Rattle.fx_base.specs.declared.place.Place.{Place}
 use Rattle.fx_value.specs.Ends.{End, Faults, Stuck}

@@ -58,13 +58,7 @@ fn signed(scope: Scope, place: Place, sign: Prefix, of: &Expr) -> Result<Next, S
     Ok(next)
 }
 
-fn decision(
-    scope: Scope,
-    place: Place,
-    test: &Expr,
-    yes: &Expr,
-    no: &Expr,
-) -> Result<Next, Stop>
+fn decision(scope: Scope, place: Place, test: &Expr, yes: &Expr, no: &Expr) -> Result<Next, Stop>
     ensures { (t : Tests) → Leads (shape_left t (scope_of scope) place (if_then (tree_of test.now) (tree_of yes.now) (tree_of no.now))) t result }
 {
     let frame = branch(&scope, yes, no)?;

@@ -59,7 +59,12 @@ fn advance<P: Patterns>(
 {
     match control {
         Control::Give(value) => give(alloc, known, patterns, value, frames, meter),
-        Control::Eval { scope, expr } => taken(alloc, evaluated(alloc, scope, &expr), frames, meter),
+        Control::Eval { scope, expr } => taken(
+            alloc,
+            evaluated(alloc, scope, &expr),
+            frames,
+            meter,
+        ),
         Control::Bind(entry) => taken(alloc, bind(alloc, entry), frames, meter),
         Control::Assign(entry) => taken(alloc, assign(alloc, entry), frames, meter),
     }

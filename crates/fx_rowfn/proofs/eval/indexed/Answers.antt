@@ -1,6 +1,6 @@
 use Rattle.std.proofs.Common.{sym, ap, ◌∷◌, ◌∙◌}
 use Rattle.fx_ast.specs.Shape.{tree_of}
-use Rattle.fx_rowfn.specs.State.{left, left_then, links_from, scope_of}
+use Rattle.fx_rowfn.specs.State.{left, left_then, scope_of}
 use Rattle.fx_rowfn.specs.declared.frame.Control.TheVariants as control
 use Rattle.fx_rowfn.proofs.FrameLaws.{index_left}
 use Rattle.fx_rowfn.proofs.eval.indexed.Goals as goal

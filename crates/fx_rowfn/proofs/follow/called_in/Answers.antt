@@ -1,6 +1,6 @@
-use Rattle.std.proofs.Common.{[], ◌++◌, map, sym, ap, ◌∙◌}
+use Rattle.std.proofs.Common.{◌++◌, map, sym, ap, ◌∙◌}
 use Rattle.std.proofs.lemmas.List.{append-nil}
-use Rattle.fx_values.specs.Shape.{closed, slot, slots_of}
+use Rattle.fx_values.specs.Shape.{slot, slots_of}
 use Rattle.fx_values.proofs.ValueLaws.{closed_is}
 use Rattle.fx_rowfn.proofs.follow.called_in.Goals as goal
 

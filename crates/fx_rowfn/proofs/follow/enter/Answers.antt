@@ -11,6 +11,8 @@ returns-in_ok-scope-in-Ok-clause-carries c =
     (c.in_ok-scope-in-Ok.ensures ∙ ap (λ k. record { env = (closed k).captured; setting = (closed k).setting }) c.deref.ensures)
 
 pub returns-in-Err-clause-carries : goal.returns-in-Err-clause-carries
-returns-in-Err-clause-carries c =
-    (omega (arith, c.in-Err.ensures.over.1, c.requires.ready.spent, c.requires.ready.budget), omega (arith, c.in-Err.ensures.over.0, c.in-Err.ensures.over.1, c.requires.ready.budget, c.requires.ready.spent),
-    λ test limit below. enter_ticks test limit (stack_of c.args.frames.now.items) c.args.closure (slots_of (map slot c.args.args.value)) below)
+returns-in-Err-clause-carries c = (
+  omega (arith, c.in-Err.ensures.over.1, c.requires.ready.spent, c.requires.ready.budget),
+  omega (arith, c.in-Err.ensures.over.0, c.in-Err.ensures.over.1, c.requires.ready.budget, c.requires.ready.spent),
+  λ test limit below. enter_ticks test limit (stack_of c.args.frames.now.items) c.args.closure (slots_of (map slot c.args.args.value)) below,
+)

@@ -1,5 +1,4 @@
-use Rattle.std.proofs.Common.{refl, ap, sym, subst}
-use Rattle.std.specs.Prelude.{Ok, Err}
+use Rattle.std.proofs.Common.{refl, subst}
 use Rattle.fx_rowfn.specs.State.{Leads, stack_of}
 use Rattle.fx_rowfn.proofs.MoveLaws.{next_moves, stop_moves}
 use Rattle.fx_rowfn.proofs.follow.taken.Goals as goal

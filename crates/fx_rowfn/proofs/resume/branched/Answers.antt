@@ -18,6 +18,6 @@ pub returns-in-Err : goal.returns-in-Err
 returns-in-Err c = λ test.
     stop_leads test (λ b. b) (truth_in (val c.args.value.now))
     (λ limit fs holds.
-      if holds then means test (calls_above test limit fs) (scope_of c.args.scope).setting (tree_of c.args.yes) (scope_of c.args.scope).env
-      else means test (calls_above test limit fs) (scope_of c.args.scope).setting (tree_of c.args.no) (scope_of c.args.scope).env)
+    if holds then means test (calls_above test limit fs) (scope_of c.args.scope).setting (tree_of c.args.yes) (scope_of c.args.scope).env
+    else means test (calls_above test limit fs) (scope_of c.args.scope).setting (tree_of c.args.no) (scope_of c.args.scope).env)
     c.in-Err.stop c.in-Err.ensures

@@ -1,8 +1,7 @@
-use Rattle.std.proofs.Common.{◌≡◌, suc, List, [], ◌∷◌, ◌++◌, refl, sym, ap, arith, ◌∙◌}
+use Rattle.std.proofs.Common.{◌≡◌, suc, [], ◌∷◌, ◌++◌, sym, ap, arith, ◌∙◌}
 use Rattle.std.specs.Prelude.{None, Some}
 use Rattle.fx_values.specs.Known.{hears}
 use Rattle.fx_values.specs.Shape.{val}
-use Rattle.fx_rowfn.specs.Frame as plain
 use Rattle.fx_rowfn.specs.Frame.{depth}
 use Rattle.fx_rowfn.specs.State.{frame_of, left, resumed_left, stack_of}
 use Rattle.fx_rowfn.specs.declared.frame.Control.TheVariants as control

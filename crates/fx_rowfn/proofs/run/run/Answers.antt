@@ -1,7 +1,6 @@
-use Rattle.std.proofs.Common.{◌≡◌, List, [], subst, sym, ap, arith, rules, ◌∙◌}
+use Rattle.std.proofs.Common.{◌≡◌, [], subst, sym, rules}
 use Rattle.std.specs.Prelude.{Ok, Err}
 use Rattle.fx_value.proofs.Calls.{heard_same, same_patterns_on}
-use Rattle.fx_value.specs.Calls.{IsMetered}
 use Rattle.fx_value.specs.Ends.{Gives}
 use Rattle.fx_values.specs.Known.{hears, numbers_of}
 use Rattle.fx_values.specs.Shape.{val}
@@ -39,7 +38,8 @@ loop-preserved g c =
     let moves : Moves test c.loop.control (stack_of c.loop.frames.items) (stack_of c.advance.new.frames.items) c.loop.meter c.advance.new.meter (Ok (moved.Goes c.in-Goes.next))
     = subst (λ v. Moves test c.loop.control (stack_of c.loop.frames.items) (stack_of c.advance.new.frames.items) c.loop.meter c.advance.new.meter (Ok v)) c.in-Goes.is
     (subst (λ t. Moves t c.loop.control (stack_of c.loop.frames.items) (stack_of c.advance.new.frames.items) c.loop.meter c.advance.new.meter (Ok c.in_ok-value.field-0)) same c.in_ok-value.ensures.moves) in
-    let metered = c.in_ok-value.ensures.metered in
-    (runs_on test c.args.start c.loop.control (stack_of c.loop.frames.items) c.args.meter.now c.loop.meter inv.0 c.in-Goes.next (stack_of c.advance.new.frames.items) c.advance.new.meter moves,
-    metered_on c.args.meter.now c.loop.meter c.advance.new.meter inv.1 metered,
-    same_patterns_on g.P.Patterns.built g.P.Patterns.refusals g.P.Patterns.test c.args.patterns.now c.loop.patterns c.advance.new.patterns inv.2 c.in_ok-value.ensures.patterns)
+    let metered = c.in_ok-value.ensures.metered in (
+      runs_on test c.args.start c.loop.control (stack_of c.loop.frames.items) c.args.meter.now c.loop.meter inv.0 c.in-Goes.next (stack_of c.advance.new.frames.items) c.advance.new.meter moves,
+      metered_on c.args.meter.now c.loop.meter c.advance.new.meter inv.1 metered,
+      same_patterns_on g.P.Patterns.built g.P.Patterns.refusals g.P.Patterns.test c.args.patterns.now c.loop.patterns c.advance.new.patterns inv.2 c.in_ok-value.ensures.patterns,
+    )

@@ -1,5 +1,4 @@
-use Rattle.std.proofs.Common.{◌≡◌}
-use Rattle.fx_value.specs.Calls.{IsMetered, IsReady, SamePatterns}
+use Rattle.fx_value.specs.Calls.{IsMetered, SamePatterns}
 use Rattle.fx_values.specs.Known.{hears}
 use Rattle.fx_rowfn.specs.State.{stack_of}
 use Rattle.fx_rowfn.proofs.RunLaws.{Runs}
