@@ -35,7 +35,7 @@ pub(crate) fn given(told: Result<Value, Stop>) -> Result<Next, Stop>
 }
 
 /// The value of an expression is awaited by a frame.
-fn awaited(scope: Scope, expr: &Expr, frame: Frame) -> Result<Next, Memory>
+pub(crate) fn awaited(scope: Scope, expr: &Expr, frame: Frame) -> Result<Next, Memory>
     ensures { IfOk result (λ n. n ≡ next.Await frame (control.Eval scope expr.now)) }
 {
     let expr = expr.copy()?;

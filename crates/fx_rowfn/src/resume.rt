@@ -8,11 +8,11 @@ ghost use Rattle.fx_value.specs.Calls.{AreGiven, SamePatterns};
 ghost use Rattle.fx_values.specs.Known.{hears, numbers_of};
 ghost use Rattle.fx_values.specs.Shape.{val};
 
-use crate::eval::given;
+use crate::eval::{awaited, given};
 use crate::frame::{Control, Frame, Next};
 use crate::scope::Scope;
 use fx_ast::Expr;
-use fx_base::Patterns;
+use fx_base::{Patterns, Place};
 use fx_meaning::Placed;
 use fx_values::{Stop, Value, prefixed, truth_in};
 use std::alloc::Global;
@@ -31,6 +31,7 @@ pub(crate) fn resume<P: Patterns>(
     match frame {
         Frame::Sign { place, sign } => given(prefixed(place, sign, &value)),
         Frame::Branch { scope, yes, no } => branched(scope, yes, no, &value),
+        Frame::IndexedBy { scope, place, at } => index_awaited(scope, place, &at, value),
         _ => Err(Stop::Memory),
     }
 }
@@ -52,4 +53,12 @@ fn chosen(holds: bool, yes: Expr, no: Expr) -> Expr
     ensures { result ≡ (if holds then yes else no) }
 {
     if holds { yes } else { no }
+}
+
+/// What has an item is known.
+fn index_awaited(scope: Scope, place: Place, at: &Expr, items: Value) -> Result<Next, Stop>
+    ensures { (test : Tests) → Leads (resumed_left test (plain.indexed_by (scope_of scope) place (tree_of at.now)) (val items)) test result }
+{
+    let next = awaited(scope, at, Frame::IndexOf { place, items })?;
+    Ok(next)
 }

@@ -15,3 +15,8 @@ pub returns-in-Branch-clause-leads : goal.returns-in-Branch-clause-leads
 returns-in-Branch-clause-leads g c =
     let test = hears c.args.known.now (g.P.Patterns.test c.args.patterns.now) in
     subst (λ f. Leads (resumed_left test (frame_of f) (val c.args.value)) test c.branched.result) (sym c.in-Branch.is) (c.branched.ensures test)
+
+pub returns-in-IndexedBy-clause-leads : goal.returns-in-IndexedBy-clause-leads
+returns-in-IndexedBy-clause-leads g c =
+    let test = hears c.args.known.now (g.P.Patterns.test c.args.patterns.now) in
+    subst (λ f. Leads (resumed_left test (frame_of f) (val c.args.value)) test c.index_awaited.result) (sym c.in-IndexedBy.is) (c.index_awaited.ensures test)
