@@ -2,6 +2,7 @@
 use Rattle.std.proofs.Common.{◌≡◌, sym, ap, subst, ◌∙◌, map, refl, ℕ, List, [], ◌∷◌}
 use Rattle.std.specs.declared.alloc.Global.{Global}
 use Rattle.std.specs.declared.rc.Rc.{Rc}
+use Rattle.fx_ast.specs.Shape.{body, param, params_of}
 use Rattle.fx_base.specs.declared.place.Place.{Place}
 use Rattle.fx_meaning.specs.Value.{Label, Val, cell, span, pattern, array, rec, closure, native, in_package, stream, shown, Stream, applied}
 use Rattle.fx_meaning.specs.declared.native.Native.{Native}
@@ -17,10 +18,10 @@ use Rattle.fx_values.specs.declared.value.Shown.{Shown, roll-Shown}
 use Rattle.fx_values.specs.declared.value.Slot.{Slot, roll-Slot}
 use Rattle.fx_values.specs.declared.value.StreamCall.{StreamCall, roll-StreamCall}
 use Rattle.fx_values.specs.declared.value.Value.{Value}
-use Rattle.fx_values.specs.declared.value.Value.TheFolds.{fold_out-Slot, fold-roll-Slot, fold-roll-Value, fold-roll-StreamCall, fold-roll-Shown}
+use Rattle.fx_values.specs.declared.value.Value.TheFolds.{fold_out-Closure, fold_out-Slot, fold-roll-Slot, fold-roll-Value, fold-roll-StreamCall, fold-roll-Shown}
 use Rattle.fx_values.specs.declared.value.Value.TheOpen.{Value-F}
 use Rattle.fx_values.specs.declared.value.Value.TheVariants as v
-use Rattle.fx_values.specs.declared.value.Value.TheViews.{roll-Value, out-Value, roll-out-Value}
+use Rattle.fx_values.specs.declared.value.Value.TheViews.{out-Closure, roll-Value, out-Value, roll-out-Value}
 
 pub val_cell : (a : Scalar) → val (v.Cell a) ≡ cell a
 unfolding val closed slot call show
@@ -65,6 +66,11 @@ val_done s = ap val (sym (v.rolls-Done s)) ∙ fold-roll-Value Val OfClosure OfS
 pub slot_is : (s : Slot) → slot s ≡ record { label = s.label; value = val s.value }
 unfolding val slot
 slot_is s = fold_out-Slot Val OfClosure OfShown OfSlot Stream value_shape closure_shape shown_shape slot_shape stream_shape s
+
+pub closed_is : (c : Closure)
+    → closed c ≡ record { params = params_of (map param (out-Closure c).params); lets = (body (out-Closure c).body).lets; result = (body (out-Closure c).body).result; captured = slots_of (map slot (out-Closure c).captured.value); setting = (out-Closure c).setting.value }
+unfolding val slot closed
+closed_is c = fold_out-Closure Val OfClosure OfShown OfSlot Stream value_shape closure_shape shown_shape slot_shape stream_shape c
 
 pub slot_made : (x : Label) (w : Value) → slot (roll-Slot (record { label = x; value = w })) ≡ record { label = x; value = val w }
 unfolding val slot

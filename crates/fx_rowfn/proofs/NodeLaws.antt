@@ -1,0 +1,19 @@
+-- The work of a tree, by its node.
+use Rattle.std.proofs.Common.{◌≡◌, subst, sym, ap, ◌∙◌}
+use Rattle.std.specs.Prelude.{Result}
+use Rattle.fx_ast.proofs.ShapeLaws.{tree_is}
+use Rattle.fx_ast.specs.Shape.{shape_of, tree_of}
+use Rattle.fx_ast.specs.Tree.{Links, Shape, Tree, chain, tree}
+use Rattle.fx_ast.specs.declared.expr.Expr.{Expr}
+use Rattle.fx_meaning.specs.Meaning.{Tests}
+use Rattle.fx_values.specs.declared.stop.Stop.{Stop}
+use Rattle.fx_rowfn.specs.Frame.{Scope}
+use Rattle.fx_rowfn.specs.State.{Leads, links_from, links_in, shape_left, tree_left}
+use Rattle.fx_rowfn.specs.declared.frame.Next.{Next}
+
+pub by_node : (e : Expr) (scope : Scope) (s : Shape) (r : Result Next Stop) → shape_of e.node ≡ s → ((test : Tests) → Leads (shape_left test scope e.place s) test r)
+    → (test : Tests) → Leads (tree_left test scope (tree_of e)) test r
+by_node e scope s r is leads = λ test. subst (λ t. Leads (tree_left test scope t) test r) (sym (tree_is e ∙ ap (tree e.place) is)) (leads test)
+
+pub first_links : (e : Expr) (first : Tree) (ls : Links) → shape_of e.node ≡ chain first ls → shape_of e.node ≡ chain first (links_from (tree_of e) 0)
+first_links e first ls is = is ∙ ap (chain first) (sym (ap (λ t. links_from t 0) (tree_is e) ∙ ap links_in is))

@@ -1,0 +1,54 @@
+use Rattle.std.proofs.Common.{sym, ap, subst, ◌∙◌, map}
+use Rattle.fx_ast.proofs.ShapeLaws.{shape_chain, shape_if, shape_index, shape_int, shape_member, shape_paren, shape_prefix, shape_span, shape_time}
+use Rattle.fx_ast.specs.Shape.{link, links_of, shape_of, tree_of}
+use Rattle.fx_ast.specs.Tree.{chain, if_then, index, int, member, paren, prefix, span, time}
+use Rattle.fx_value.specs.Ends.{and_then}
+use Rattle.fx_meaning.specs.Ends.{pure}
+use Rattle.fx_meaning.specs.Value as value
+use Rattle.fx_rowfn.specs.Frame.{unwound}
+use Rattle.fx_rowfn.specs.State.{Leads, links_from, scope_of, tree_left}
+use Rattle.fx_rowfn.proofs.NodeLaws.{by_node, first_links}
+use Rattle.fx_rowfn.proofs.eval.evaluated.Goals as goal
+
+pub returns-in-Int : goal.returns-in-Int
+returns-in-Int c =
+    by_node c.args.expr.now (scope_of c.args.scope) (int c.in-Int.n) c.constant.result (ap shape_of (sym c.get.ensures ∙ c.in-Int.is) ∙ shape_int c.in-Int.n)
+    (λ test. subst (λ a. Leads (λ limit fs. and_then (pure (value.cell a)) (unwound test limit fs)) test c.constant.result) c.integer.ensures (c.constant.ensures test))
+
+pub returns-in-Time : goal.returns-in-Time
+returns-in-Time c =
+    by_node c.args.expr.now (scope_of c.args.scope) (time c.in-Time.t) c.constant-in-Time.result (ap shape_of (sym c.get.ensures ∙ c.in-Time.is) ∙ shape_time c.in-Time.t)
+    (λ test. subst (λ a. Leads (λ limit fs. and_then (pure (value.cell a)) (unwound test limit fs)) test c.constant-in-Time.result) c.moment.ensures (c.constant-in-Time.ensures test))
+
+pub returns-in-Paren : goal.returns-in-Paren
+returns-in-Paren c =
+    by_node c.args.expr.now (scope_of c.args.scope) (paren (tree_of c.in-Paren.of)) c.inner.result (ap shape_of (sym c.get.ensures ∙ c.in-Paren.is) ∙ shape_paren c.in-Paren.of) c.inner.ensures
+
+pub returns-in-Member : goal.returns-in-Member
+returns-in-Member c =
+    by_node c.args.expr.now (scope_of c.args.scope) (member (tree_of c.in-Member.of) c.in-Member.label) c.member.result (ap shape_of (sym c.get.ensures ∙ c.in-Member.is) ∙ shape_member c.in-Member.of c.in-Member.label) c.member.ensures
+
+pub returns-in-Index : goal.returns-in-Index
+returns-in-Index c =
+    by_node c.args.expr.now (scope_of c.args.scope) (index (tree_of c.in-Index.of) (tree_of c.in-Index.at)) c.indexed.result (ap shape_of (sym c.get.ensures ∙ c.in-Index.is) ∙ shape_index c.in-Index.of c.in-Index.at) c.indexed.ensures
+
+pub returns-in-Prefix : goal.returns-in-Prefix
+returns-in-Prefix c =
+    by_node c.args.expr.now (scope_of c.args.scope) (prefix c.in-Prefix.sign (tree_of c.in-Prefix.of)) c.signed.result (ap shape_of (sym c.get.ensures ∙ c.in-Prefix.is) ∙ shape_prefix c.in-Prefix.sign c.in-Prefix.of) c.signed.ensures
+
+pub returns-in-If : goal.returns-in-If
+returns-in-If c =
+    by_node c.args.expr.now (scope_of c.args.scope) (if_then (tree_of c.in-If.test) (tree_of c.in-If.yes) (tree_of c.in-If.no)) c.decision.result (ap shape_of (sym c.get.ensures ∙ c.in-If.is) ∙ shape_if c.in-If.test c.in-If.yes c.in-If.no) c.decision.ensures
+
+pub returns-in-Chain : goal.returns-in-Chain
+returns-in-Chain c =
+    by_node c.args.expr.now (scope_of c.args.scope) (chain (tree_of c.in-Chain.first) (links_from (tree_of c.args.expr.now) 0)) c.chained.result
+    (first_links c.args.expr.now (tree_of c.in-Chain.first) (links_of (map link c.in-Chain.rest))
+    (ap shape_of (sym c.get.ensures ∙ c.in-Chain.is) ∙ shape_chain c.in-Chain.first c.in-Chain.rest)) c.chained.ensures
+
+pub returns-in-Span : goal.returns-in-Span
+returns-in-Span c =
+    by_node c.args.expr.now (scope_of c.args.scope) (span c.in-Span.d) c.duration.result (ap shape_of (sym c.get.ensures ∙ c.in-Span.is) ∙ shape_span c.in-Span.d) c.duration.ensures
+
+pub returns-in_default : goal.returns-in_default
+returns-in_default c = λ test. c.unwritten.ensures (tree_left test (scope_of c.args.scope) (tree_of c.args.expr.now)) test

@@ -1,0 +1,4 @@
+pub mod Follows
+pub mod Frame
+pub mod Parts
+pub mod State

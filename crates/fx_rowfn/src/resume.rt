@@ -1,0 +1,65 @@
+//! What becomes of a value at the frame that awaits it.
+ghost use Rattle.std.specs.Prelude.{◌≡◌, if◌then◌else◌};
+ghost use Rattle.fx_ast.specs.Shape.{tree_of};
+ghost use Rattle.fx_meaning.specs.Meaning.{Tests};
+ghost use Rattle.fx_rowfn.specs.Frame as plain;
+ghost use Rattle.fx_rowfn.specs.State.{Leads, frame_of, resumed_left, scope_of};
+ghost use Rattle.fx_value.specs.Calls.{AreGiven, SamePatterns};
+ghost use Rattle.fx_values.specs.Known.{hears, numbers_of};
+ghost use Rattle.fx_values.specs.Shape.{val};
+
+use crate::eval::{awaited, given};
+use crate::frame::{Control, Frame, Next};
+use crate::scope::Scope;
+use crate::unwritten::unwritten;
+use fx_ast::Expr;
+use fx_base::{Patterns, Place};
+use fx_meaning::Placed;
+use fx_values::{Stop, Value, prefixed, truth_in};
+use std::alloc::Global;
+
+pub(crate) fn resume<P: Patterns>(
+    alloc: Global,
+    known: &[Placed],
+    patterns: &mut P,
+    frame: Frame,
+    value: Value,
+) -> Result<Next, Stop>
+    requires given { AreGiven (numbers_of known.now) (P.built patterns.old) }
+    ensures leads { Leads (resumed_left (hears known.entry.now (P.test patterns.old)) (frame_of frame) (val value)) (hears known.entry.now (P.test patterns.old)) result }
+    ensures patterns { SamePatterns P.built P.refusals P.test patterns.old patterns.new }
+{
+    match frame {
+        Frame::Sign { place, sign } => given(prefixed(place, sign, &value)),
+        Frame::Branch { scope, yes, no } => branched(scope, yes, no, &value),
+        Frame::IndexedBy { scope, place, at } => index_awaited(scope, place, &at, value),
+        _ => unwritten(),
+    }
+}
+
+/// The test of an `if` is known.
+fn branched(scope: Scope, yes: Expr, no: Expr, value: &Value) -> Result<Next, Stop>
+    ensures { (test : Tests) → Leads (resumed_left test (plain.branch (scope_of scope) (tree_of yes) (tree_of no)) (val value.now)) test result }
+{
+    match truth_in(value) {
+        Ok(holds) => Ok(Next::Go(Control::Eval {
+            scope,
+            expr: chosen(holds, yes, no),
+        })),
+        Err(stop) => Err(stop),
+    }
+}
+
+fn chosen(holds: bool, yes: Expr, no: Expr) -> Expr
+    ensures { result ≡ (if holds then yes else no) }
+{
+    if holds { yes } else { no }
+}
+
+/// What has an item is known.
+fn index_awaited(scope: Scope, place: Place, at: &Expr, items: Value) -> Result<Next, Stop>
+    ensures { (test : Tests) → Leads (resumed_left test (plain.indexed_by (scope_of scope) place (tree_of at.now)) (val items)) test result }
+{
+    let next = awaited(scope, at, Frame::IndexOf { place, items })?;
+    Ok(next)
+}
