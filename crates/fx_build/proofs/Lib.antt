@@ -39,3 +39,4 @@ pub mod TableLaws
 pub mod TakenLaws
 pub mod WordLaws
 pub mod Worked
+pub mod ListedRuns

@@ -103,3 +103,11 @@ abbrev mutual
   pub inputs_listed : Streams → Bool
   inputs_listed no_streams = true
   inputs_listed (more_streams call calls) = all_listed call && inputs_listed calls
+
+-- a yield of such a stream shows its tables, and one of any other stream nothing yet
+abbrev pub shown_if : Bool → End (List Table) → End (List Table)
+shown_if true shown = shown
+shown_if false shown = Gives [] 0
+
+abbrev pub listed_yield : Tests → Stored → Stream → ℕ → End (List Table)
+listed_yield test stored call limit = shown_if (all_listed call) (yield_meaning test stored call limit)

@@ -18,7 +18,7 @@ ghost use Rattle.fx_build.specs.Run.{script_run};
 ghost use Rattle.fx_build.specs.Safe.{IsSafe};
 ghost use Rattle.fx_build.specs.Sound.{FitsAll, IsSettingOf, RunFits, ShowsSafely};
 ghost use Rattle.fx_build.specs.Sources.{AreLawful, Stored};
-ghost use Rattle.fx_build.specs.Streams.{all_listed, stream_meaning, yield_meaning};
+ghost use Rattle.fx_build.specs.Streams.{all_listed, listed_yield, stream_meaning, yield_meaning};
 
 /// A typed expression, in values that meet its environment, is Stuck under no limit, and its value
 /// fits each of its types.
@@ -43,7 +43,10 @@ pub fn streams_are_limited()
 
 /// The run of a script with a typing is Stuck under no limit, in a setting with its patterns, where
 /// yields of streams that fit are safe. The value of each statement fits every type that the typing
-/// gives it, and the rows of each yield fit each row of types that its stream fits.
+/// gives it, and the rows of each yield fit each row of types that its stream fits. Yields are safe
+/// over lawful stored points where each shows what its stream means, if all operators of the stream
+/// have a meaning so far, and else nothing (`listed`).
 pub fn runs_are_sound()
     ensures run { (test : Tests) (setting : Setting) (tables : Stream → ℕ → End (List Table)) (ss : List StatementTree) (limit : ℕ) → HasTyping ss → IsSettingOf setting ss → ShowsSafely TablesFit tables → RunFits TablesFit ss [] (script_run test setting tables ss limit) }
+    ensures listed { (test : Tests) (setting : Setting) (stored : Stored) (ss : List StatementTree) (limit : ℕ) → AreLawful stored → HasTyping ss → IsSettingOf setting ss → RunFits TablesFit ss [] (script_run test setting (listed_yield test stored) ss limit) }
 {}
