@@ -1,6 +1,6 @@
 -- Keys that were inserted once add nothing when they are inserted again.
-use Rattle.std.proofs.Common.{◌≡◌, ℕ, ◌+◌, ◌-◌, ◌<◌, List, [], ◌∷◌, ◌++◌, length, take, get_or, refl, ap, sym, ◌∙◌, arith}
-use Rattle.std.specs.List.{flat_map, fold}
+use Rattle.std.proofs.Common.{◌≡◌, ℕ, ◌+◌, ◌-◌, ◌<◌, List, [], ◌∷◌, ◌++◌, length, take, get_or, refl, ap, sym, ◌∙◌, arith, append-nil}
+use Rattle.std.specs.List.{AllByRecursion, flat_map, fold}
 use Rattle.std.specs.BTreeSet.{insert_key}
 use Rattle.std.specs.declared.cmp.Ordering.{Ordering}
 use Rattle.std.specs.declared.cmp.Ordering.TheVariants.{Less, Equal, Greater}
@@ -94,3 +94,19 @@ module _ {K : Type 0} (R : K → K → Ordering) (o : IsTotalOrder R) where
         ∙ ap (λ l. fold (insert_key R) l (f y)) before
         ∙ inserted_again (fold (insert_key R) ks (flat_map f (take (i - 1) xs))) (f y)
         ∙ sym before
+
+    none_added : (ks : List K) (x : X) (xs : List X) → AllByRecursion (λ y. f y ≡ f x) xs
+        → fold (insert_key R) (fold (insert_key R) ks (f x)) (flat_map f xs) ≡ fold (insert_key R) ks (f x)
+    none_added ks x [] h = refl
+    none_added ks x (y ∷ xs) h =
+        fold-append (insert_key R) (fold (insert_key R) ks (f x)) (f y) (flat_map f xs)
+        ∙ ap (λ l. fold (insert_key R) l (flat_map f xs)) (ap (fold (insert_key R) (fold (insert_key R) ks (f x))) h.0 ∙ inserted_again ks (f x))
+        ∙ none_added ks x xs h.1
+
+    -- where all items have the keys of the first, the first adds them all
+    pub inserted_alike : (ks : List K) (x : X) (xs : List X) → AllByRecursion (λ y. f y ≡ f x) xs
+        → fold (insert_key R) ks (flat_map f (x ∷ [])) ≡ fold (insert_key R) ks (flat_map f (x ∷ xs))
+    inserted_alike ks x xs h =
+        ap (fold (insert_key R) ks) (append-nil (f x))
+        ∙ sym (none_added ks x xs h)
+        ∙ sym (fold-append (insert_key R) ks (f x) (flat_map f xs))

@@ -1,3 +1,4 @@
+pub mod AlikeFirst
 pub mod BlockSteps
 pub mod Checked
 pub mod ColumnKinds

@@ -1,5 +1,6 @@
 //! Blocks: how far tables print under one head.
-ghost use Rattle.std.specs.Prelude.{◌≡◌, ◌<◌, Bool, List, [], ◌∷◌, ◌++◌, length, All, IfOk, map, if◌then◌else◌};
+ghost use Rattle.std.specs.Prelude.{◌≡◌, ◌<◌, Bool, List, [], ◌∷◌, ◌++◌, length, All, IfOk, map, if◌then◌else◌, IsTrue};
+ghost use Rattle.fx_csv.specs.Alike.{HasAlikeRows};
 ghost use Rattle.std.specs.Cmp.Lexicographic.{pointwise};
 ghost use Rattle.fx_csv.specs.Cells.{same_kind};
 ghost use Rattle.fx_csv.specs.Printed.{HasOneKind, is_block, key_labels, same_labels};
@@ -19,15 +20,22 @@ pub(crate) struct Block {
     pub(crate) len: usize,
 }
 
-/// The block that begins with this table.
-pub(crate) fn first_block(alloc: Global, first: &Table, rest: &[Table]) -> Result<Block, Memory>
+/// The block that begins with this table. The rows of each table may be known to be alike.
+pub(crate) fn first_block(
+    alloc: Global,
+    first: &Table,
+    rest: &[Table],
+    alike: bool,
+) -> Result<Block, Memory>
     requires first { HasOneKind first.now }
     requires others { All HasOneKind rest.now }
+    requires alike_first { IsTrue alike → HasAlikeRows first.now }
+    requires alike_others { IsTrue alike → All HasAlikeRows rest.now }
     ensures { IfOk result (IsFirstBlock (first.now ∷ rest.now)) }
 {
-    let mut columns = columns_of(alloc, first)?;
+    let mut columns = columns_of(alloc, first, alike)?;
     for (i, next) in rest.iter().enumerate() {
-        if !join(alloc, first, &mut columns, next)? {
+        if !join(alloc, first, &mut columns, next, alike)? {
             return Ok(Block {
                 columns,
                 len: i + 1,
@@ -46,8 +54,10 @@ fn join(
     first: &Table,
     columns: &mut Vec<Column>,
     next: &Table,
+    alike: bool,
 ) -> Result<bool, Memory>
-    requires { HasOneKind next.now }
+    requires kinds { HasOneKind next.now }
+    requires alike { IsTrue alike → HasAlikeRows next.now }
     ensures { (rest : List Table) → AreColumns first.now rest columns.old.items → IfOk result (λ joined.
         (joined ≡ is_block (first.now ∷ (rest ++ next.now ∷ [])))
         × (columns.new.items ≡ columns_over (first.now ∷ (if joined then rest ++ next.now ∷ [] else rest)))) }
@@ -55,7 +65,7 @@ fn join(
     if !same_key_labels(first.key.entries.as_slice(), next.key.entries.as_slice()) {
         return Ok(false);
     }
-    let others = columns_of(alloc, next)?;
+    let others = columns_of(alloc, next, alike)?;
     if !all_agree(columns.as_slice(), others.as_slice()) {
         return Ok(false);
     }

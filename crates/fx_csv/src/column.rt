@@ -1,5 +1,6 @@
 //! The columns of a block.
-ghost use Rattle.std.specs.Prelude.{◌≡◌, [], ◌∷◌, IfOk};
+ghost use Rattle.std.specs.Prelude.{◌≡◌, [], ◌∷◌, IfOk, IsTrue};
+ghost use Rattle.fx_csv.specs.Alike.{HasAlikeRows};
 ghost use Rattle.fx_csv.specs.Printed.{is_key_label};
 ghost use Rattle.fx_csv.specs.Shapes.{columns_over};
 
@@ -18,11 +19,12 @@ pub(crate) struct Column {
     pub(crate) kind: Option<Kind>,
 }
 
-/// The columns of a table that stands alone.
-pub(crate) fn columns_of(alloc: Global, table: &Table) -> Result<Vec<Column>, Memory>
+/// The columns of a table that stands alone, whose rows may be known to be alike.
+pub(crate) fn columns_of(alloc: Global, table: &Table, alike: bool) -> Result<Vec<Column>, Memory>
+    requires { IsTrue alike → HasAlikeRows table.now }
     ensures { IfOk result (λ v. v.items ≡ columns_over (table.now ∷ [])) }
 {
-    let names = column_names(alloc, table)?;
+    let names = column_names(alloc, table, alike)?;
     let mut columns = Vec::with_capacity(alloc, names.len())?;
     for name in names.iter() {
         let label = name.label()?;

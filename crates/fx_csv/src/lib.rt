@@ -16,4 +16,4 @@ mod template;
 mod text;
 mod writer;
 
-pub use print::{print_yield, write_yield};
+pub use print::{print_yield, write_alike_yield, write_yield};

@@ -1,8 +1,9 @@
 //! The labels of a table in the order of columns.
-ghost use Rattle.std.specs.Prelude.{◌≡◌, [], ◌++◌, map, IfOk, OnOk};
+ghost use Rattle.std.specs.Prelude.{◌≡◌, ℕ, List, [], ◌++◌, map, IfOk, OnOk, IsTrue};
 ghost use Rattle.std.specs.FinMap as map;
 ghost use Rattle.std.specs.List.{flat_map, fold};
 ghost use Rattle.std.specs.BTreeSet.{insert_key};
+ghost use Rattle.fx_csv.specs.Alike.{AreAlike, HasAlikeRows};
 ghost use Rattle.fx_csv.specs.Columns.{column_cmp};
 ghost use Rattle.fx_csv.specs.Printed.{column_labels, key_labels};
 
@@ -12,13 +13,19 @@ use fx_data::{KeyEntry, Table};
 use fx_value::Row;
 use std::alloc::Global;
 use std::collections::BTreeSet;
+use std::slice;
 
-/// The labels of a table's key and rows, each once.
-pub(crate) fn column_names(alloc: Global, table: &Table) -> Result<BTreeSet<ColumnName>, Memory>
+/// The labels of a table's key and rows, each once; of alike rows only the first is looked at.
+pub(crate) fn column_names(
+    alloc: Global,
+    table: &Table,
+    alike: bool,
+) -> Result<BTreeSet<ColumnName>, Memory>
+    requires { IsTrue alike → HasAlikeRows table.now }
     ensures { IfOk result (λ s. s.keys ≡ column_labels table.now) }
 {
     let mut names = key_names(alloc, table.key.entries.as_slice())?;
-    add_rows(alloc, &mut names, table.rows.as_slice())?;
+    add_rows(alloc, &mut names, telling(table.rows.as_slice(), alike))?;
     Ok(names)
 }
 
@@ -30,6 +37,17 @@ fn key_names(alloc: Global, entries: &[KeyEntry]) -> Result<BTreeSet<ColumnName>
         names.insert(ColumnName::of(entry.label.copy()?))?;
     }
     Ok(names)
+}
+
+/// The rows that have the labels of all of them.
+fn telling(rows: &[Row], alike: bool) -> &[Row]
+    requires { IsTrue alike → AreAlike rows.now }
+    ensures { (names : List (List ℕ)) → fold (insert_key column_cmp) names (flat_map map.keys result.now) ≡ fold (insert_key column_cmp) names (flat_map map.keys rows.now) }
+{
+    match rows {
+        [first, ..] if alike => slice::from_ref(first),
+        _ => rows,
+    }
 }
 
 /// Adds the labels of the rows. A row with the labels of the row before it adds none.

@@ -1,5 +1,6 @@
 //! Yields, block by block.
-ghost use Rattle.std.specs.Prelude.{◌≡◌, ℕ, ◌+◌, ◌^◌, ◌<◌, true, List, ◌++◌, length, map, All, IfOk, OnOk};
+ghost use Rattle.std.specs.Prelude.{◌≡◌, ℕ, ◌+◌, ◌^◌, ◌<◌, true, List, ◌++◌, length, map, All, IfOk, OnOk, IsTrue};
+ghost use Rattle.fx_csv.specs.Alike.{HasAlikeRows};
 ghost use Rattle.std.specs.List.{flat_map};
 ghost use Rattle.fx_base.specs.Outside.{Writes, WriteCause};
 ghost use Rattle.fx_data.specs.Table.{IsLawfulTable};
@@ -22,12 +23,21 @@ pub fn print_yield(alloc: Global, name: &Text, tables: &Tables) -> Result<Vec<u8
     requires { All HasOneKind tables.now }
     ensures { IfOk result (λ v. v.items ≡ printed name.now tables.now) }
 {
-    let all = tables.as_slice();
+    print_tables(alloc, name, tables.as_slice(), false)
+}
+
+/// The bytes of the tables, block by block. The rows of each table may be known to be alike.
+fn print_tables(alloc: Global, name: &Text, all: &[Table], alike: bool) -> Result<Vec<u8>, Memory>
+    requires lawful { All IsLawfulTable all.now }
+    requires kinds { All HasOneKind all.now }
+    requires alike { IsTrue alike → All HasAlikeRows all.now }
+    ensures { IfOk result (λ v. v.items ≡ printed name.now all.now) }
+{
     let mut out = Vec::new(alloc);
     let mut rest = all;
     while let Some((first, others)) = rest.split_first() {
         let number = (all.len() - rest.len()) as u64;
-        let block = first_block(alloc, first, others)?;
+        let block = first_block(alloc, first, others, alike)?;
         let (run, after) = rest.split_at(block.len);
         out = print_block(alloc, out, name, number, block.columns.as_slice(), run)?;
         rest = after;
@@ -47,6 +57,24 @@ pub fn write_yield<O: Sink>(
     ensures cause { WriteCause (O.faults out.old) (O.faults out.new) result }
 {
     match print_yield(alloc, name, tables) {
+        Ok(text) => out.write(text.as_slice()),
+        Err(_) => Err(SinkFault::Memory),
+    }
+}
+
+/// Writes the bytes of a yield of tables, each with alike rows, in one piece.
+pub fn write_alike_yield<O: Sink>(
+    alloc: Global,
+    name: &Text,
+    tables: &Tables,
+    out: &mut O,
+) -> Result<(), SinkFault>
+    requires kinds { All HasOneKind tables.now }
+    requires alike { All HasAlikeRows tables.now }
+    ensures bytes { Writes (O.written out.old) (printed name.now tables.now) result (O.written out.new) }
+    ensures cause { WriteCause (O.faults out.old) (O.faults out.new) result }
+{
+    match print_tables(alloc, name, tables.as_slice(), true) {
         Ok(text) => out.write(text.as_slice()),
         Err(_) => Err(SinkFault::Memory),
     }

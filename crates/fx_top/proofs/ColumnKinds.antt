@@ -40,20 +40,20 @@ use Rattle.fx_top.specs.Run.{Columns, with_shared, with_tags, named, columns_of,
 -- ---- the columns that all rows share
 
 -- the label has no source, or one whose value all rows share
-abbrev IsShared : Option Source → Type 0
+abbrev pub IsShared : Option Source → Type 0
 IsShared None = Unit {0}
 IsShared (Some (Fixed value)) = Unit {0}
 IsShared (Some First) = ⊥
 IsShared (Some Second) = ⊥
 
 -- the value that all rows share
-abbrev shared_value : Option Source → Option Scalar
+abbrev pub shared_value : Option Source → Option Scalar
 shared_value None = None
 shared_value (Some (Fixed value)) = Some value
 shared_value (Some First) = None
 shared_value (Some Second) = None
 
-abbrev AreShared : Columns → Type 0
+abbrev pub AreShared : Columns → Type 0
 AreShared columns = (label : List ℕ) → IsShared (fin.get columns label)
 
 with_shared-shares : (columns : Columns) (k : List ℕ) (v : Scalar) → AreShared columns → AreShared (with_shared columns k v)
@@ -72,19 +72,19 @@ with_tags-shares columns (tag ∷ tags) h =
 none-shares : AreShared fin.empty
 none-shares label = subst IsShared (sym (fin.get-empty text_cmp label)) tt
 
-named-shares : (q : Query) (key : SeriesKey) → AreShared (named q key)
+pub named-shares : (q : Query) (key : SeriesKey) → AreShared (named q key)
 named-shares q key =
     with_shared-shares _ _ _ (with_shared-shares _ _ _ (with_shared-shares _ _ _ (with_shared-shares _ _ _
     (with_tags-shares fin.empty key.tags none-shares))))
 
 -- ---- what a key says of a label
 
-abbrev key_value : List KeyEntry → List ℕ → Option Scalar
+abbrev pub key_value : List KeyEntry → List ℕ → Option Scalar
 key_value [] label = None
 key_value (e ∷ entries) label = cond (eq_by_cmp text_cmp label e.label) (Some e.value) (key_value entries label)
 
 -- the key has the value that the rows share
-key_value-is : (label : List ℕ) (es : List (List ℕ × Source)) → IsShared (find text_cmp label es)
+pub key_value-is : (label : List ℕ) (es : List (List ℕ × Source)) → IsShared (find text_cmp label es)
     → key_value (map column_entry (filter_map shared_cell es)) label ≡ shared_value (find text_cmp label es)
 key_value-is label [] h = refl
 key_value-is label ((l, Fixed v) ∷ es) h =

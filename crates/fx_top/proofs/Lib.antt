@@ -1,3 +1,4 @@
+pub mod AlikeRows
 pub mod ColumnKinds
 pub mod CommandLemmas
 pub mod RunOnce

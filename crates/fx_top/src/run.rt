@@ -14,7 +14,7 @@ use crate::query::Query;
 use crate::script::{ScriptStop, read_script};
 use crate::source::query_tables;
 use fx_base::{Fault, FaultKind, FileFault, Files, Memory, Sink, SinkFault, Steps, Text};
-use fx_csv::write_yield;
+use fx_csv::write_alike_yield;
 use fx_line::LineMode;
 use fx_load::{FileStop, Load, LoadsStop, load_files};
 use fx_series::Store;
@@ -220,7 +220,7 @@ fn yield_query<O: Sink, L: Ledger>(
     let Ok(name) = Text::of(alloc, "_result") else {
         return Outcome::Memory;
     };
-    match write_yield(alloc, &name, &tables, out) {
+    match write_alike_yield(alloc, &name, &tables, out) {
         Ok(()) => Outcome::Done,
         Err(SinkFault::Failed) => Outcome::SinkFault,
         Err(SinkFault::Memory) => Outcome::Memory,

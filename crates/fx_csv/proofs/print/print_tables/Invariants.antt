@@ -1,8 +1,9 @@
-use Rattle.std.proofs.Common.{◌≡◌, ◌-◌, ◌≤◌, ◌++◌, length, All}
+use Rattle.std.proofs.Common.{◌≡◌, ◌-◌, ◌≤◌, ◌++◌, length, All, IsTrue}
 use Rattle.fx_data.specs.Table.{IsLawfulTable}
+use Rattle.fx_csv.specs.Alike.{HasAlikeRows}
 use Rattle.fx_csv.specs.Printed.{blocks_bytes, is_block, printed, HasOneKind}
 use Rattle.fx_csv.specs.Runs.{runs}
-use Rattle.fx_csv.proofs.print.print_yield.Given as goal
+use Rattle.fx_csv.proofs.print.print_tables.Given as goal
 
 abbrev pub invariant-loop-first : goal.invariant-loop-first
 invariant-loop-first l = record {
@@ -10,6 +11,7 @@ invariant-loop-first l = record {
   within : length l.rest ≤ length l.all;
   lawful : All IsLawfulTable l.rest;
   kinds : All HasOneKind l.rest;
+  alike : IsTrue l.alike → All HasAlikeRows l.rest;
 }
 
 abbrev pub decreases-loop-first : goal.decreases-loop-first
