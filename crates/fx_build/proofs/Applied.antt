@@ -20,7 +20,7 @@ use Rattle.fx_build.specs.Safe.{IsSafe}
 use Rattle.fx_build.proofs.ArgLaws.{IsGiven, given_fits}
 use Rattle.fx_build.proofs.Entered.{HasParts}
 use Rattle.fx_build.proofs.ParamLaws.{AreServed, Suits, absent_suits, all_needs, needs_of, optional_of as optional_row, pipe_apart, pipe_is, served, suits, suits_push, taken, takes_row}
-use Rattle.fx_build.proofs.SlotLaws.{look_push}
+use Rattle.fx_plan.proofs.SlotLaws.{look_push}
 
 -- the calls of literals whose captured values meet an environment, with arguments for the parameters
 abbrev pub CallsAreSafe : Calls → Type 0

@@ -20,7 +20,8 @@ use Rattle.fx_infer.specs.Typing.{at_form, has_args, has_props}
 use Rattle.fx_infer.specs.Words.{form_at, and_words, said, words_of_call}
 use Rattle.fx_build.specs.Bound.{typed}
 use Rattle.fx_build.specs.Fit.{fits, keeps_at, CellFits, FieldFits, RecordFits}
-use Rattle.fx_build.proofs.SlotLaws.{AtSlot, joined, keeps_in, keeps_out, look_joined}
+use Rattle.fx_plan.proofs.SlotLaws.{joined, look_joined}
+use Rattle.fx_build.proofs.SlotLaws.{AtSlot, keeps_in, keeps_out}
 use Rattle.fx_build.proofs.WordLaws.{Says, first_rest}
 
 -- ---- one by one

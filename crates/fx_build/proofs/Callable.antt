@@ -23,13 +23,14 @@ use Rattle.fx_infer.specs.Ask.{IsFunction}
 use Rattle.fx_infer.specs.Parameters.{line_of, type_of}
 use Rattle.fx_build.specs.Fit.{fits, with_input}
 use Rattle.fx_build.specs.Safe.{IsSafe}
-use Rattle.fx_build.specs.Said.{said_in}
+use Rattle.fx_plan.specs.Said.{said_in}
 use Rattle.fx_build.proofs.Applied.{AllSuit, CallsAreSafe, call_along, call_suits, literal_called, literal_piped, pipe_along, piped_runs, pushed_at}
 use Rattle.fx_build.proofs.ArgLaws.{IsGiven, given_fits}
 use Rattle.fx_build.proofs.Entered.{TreesFit, entered_safe}
 use Rattle.fx_build.proofs.FoldLaws.{words_said}
 use Rattle.fx_build.proofs.NameLaws.{HasLine, IsBuilt, Obeys, is_built}
-use Rattle.fx_build.proofs.NativeLaws.{pipe_facts, pipe_label_is, said_push, says_nothing}
+use Rattle.fx_build.proofs.NativeLaws.{pipe_facts, pipe_label_is, says_nothing}
+use Rattle.fx_plan.proofs.SaidLaws.{said_push}
 use Rattle.fx_build.proofs.ParamLaws.{Suits, absent_suits, suits, takes_row}
 use Rattle.fx_build.proofs.SafeLaws.{safe_later}
 use Rattle.fx_build.proofs.Sound.{tree_fits}

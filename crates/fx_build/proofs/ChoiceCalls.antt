@@ -23,10 +23,10 @@ use Rattle.fx_schemes.specs.Line.{from_tables, parameters, put}
 use Rattle.fx_meaning.specs.declared.stream.StreamFn.TheVariants as s
 use Rattle.fx_meaning.specs.Meaning.{Tests}
 use Rattle.fx_meaning.specs.Rows.{Row}
-use Rattle.fx_build.specs.Operators.{at_column}
+use Rattle.fx_plan.specs.Operators.{at_column}
 use Rattle.fx_build.specs.Rows.{RowFits, TablesFit}
 use Rattle.fx_build.specs.Safe.{IsSafe}
-use Rattle.fx_build.specs.Sources.{Stored}
+use Rattle.fx_plan.specs.Sources.{Stored}
 use Rattle.fx_build.proofs.ColumnCalls.{word_safe}
 use Rattle.fx_build.proofs.OperatorCalls.{OperatorIsSafe, by_line, one_safe}
 use Rattle.fx_build.proofs.SafeLaws.{safe_then}

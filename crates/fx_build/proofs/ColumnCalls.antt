@@ -37,10 +37,10 @@ use Rattle.fx_meaning.specs.Rows.{Row}
 use Rattle.fx_meaning.specs.Value.{Val, cell, Slots, look}
 use Rattle.fx_build.specs.Bound.{typed}
 use Rattle.fx_build.specs.Fit.{column_kind, fits, is_cell, keeps_at}
-use Rattle.fx_build.specs.Operators.{count_at, count_or_none, doubled_in, grouped_in, in_groups, of_columns, of_places, with_value}
+use Rattle.fx_plan.specs.Operators.{count_at, count_or_none, doubled_in, grouped_in, in_groups, of_columns, of_places, with_value}
 use Rattle.fx_build.specs.Rows.{RowFits, TablesFit, is_column_of}
 use Rattle.fx_build.specs.Safe.{IsSafe}
-use Rattle.fx_build.specs.Sources.{Stored}
+use Rattle.fx_plan.specs.Sources.{Stored}
 use Rattle.fx_build.proofs.KindLaws.{of_cell, of_int}
 use Rattle.fx_build.proofs.OperatorCalls.{OperatorIsSafe, argument_safe, by_line, one_safe}
 use Rattle.fx_build.proofs.RowLaws.{get_inserted, of_column, put_fits, tied}

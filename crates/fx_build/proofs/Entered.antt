@@ -24,7 +24,8 @@ use Rattle.fx_build.specs.Fit.{fits, holds, keeps, keeps_at, IsDefined, IsMet, I
 use Rattle.fx_build.specs.Safe.{IsSafe}
 use Rattle.fx_build.proofs.ParamLaws.{AreServed, IsServed}
 use Rattle.fx_build.proofs.SafeLaws.{safe_every, safe_then}
-use Rattle.fx_build.proofs.SlotLaws.{AtSlot, keeps_in, keeps_out, look_push}
+use Rattle.fx_plan.proofs.SlotLaws.{look_push}
+use Rattle.fx_build.proofs.SlotLaws.{AtSlot, keeps_in, keeps_out}
 use Rattle.fx_build.proofs.Sound.{Made, closure_holds, literal_made}
 
 -- ---- one name more

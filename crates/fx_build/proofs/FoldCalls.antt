@@ -24,10 +24,10 @@ use Rattle.fx_meaning.specs.Meaning.{Tests}
 use Rattle.fx_meaning.specs.Rows.{Row, pair_of, row_meaning}
 use Rattle.fx_meaning.specs.Value.{Val}
 use Rattle.fx_build.specs.Fit.{fits}
-use Rattle.fx_build.specs.Operators.{of_folded_rows, row_in}
+use Rattle.fx_plan.specs.Operators.{of_folded_rows, row_in}
 use Rattle.fx_build.specs.Rows.{RowFits, TablesFit}
 use Rattle.fx_build.specs.Safe.{IsSafe}
-use Rattle.fx_build.specs.Sources.{Stored}
+use Rattle.fx_plan.specs.Sources.{Stored}
 use Rattle.fx_build.proofs.OperatorCalls.{OperatorIsSafe, argument_safe, by_line, one_safe, row_in_safe}
 use Rattle.fx_build.proofs.PairCalls.{pair_meaning_safe, pair_suits}
 use Rattle.fx_build.proofs.RowCalls.{line_safe}

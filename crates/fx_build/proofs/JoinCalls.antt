@@ -32,10 +32,10 @@ use Rattle.fx_meaning.specs.Rows.{Row, pair_of, row_meaning}
 use Rattle.fx_meaning.specs.Value.{Val, Slots, look}
 use Rattle.fx_build.specs.Bound.{typed}
 use Rattle.fx_build.specs.Fit.{fits, keeps_at}
-use Rattle.fx_build.specs.Operators.{of_pairs, of_times, of_two, side_named}
+use Rattle.fx_plan.specs.Operators.{of_pairs, of_times, of_two, side_named}
 use Rattle.fx_build.specs.Rows.{RowFits, TablesFit, is_column_of}
 use Rattle.fx_build.specs.Safe.{IsSafe}
-use Rattle.fx_build.specs.Sources.{Stored}
+use Rattle.fx_plan.specs.Sources.{Stored}
 use Rattle.fx_build.proofs.ColumnCalls.{one_among, word_safe}
 use Rattle.fx_build.proofs.JoinLaws.{joined_safe}
 use Rattle.fx_build.proofs.OperatorCalls.{AreTables, OperatorIsSafe, argument_safe, by_line}

@@ -32,7 +32,6 @@ pub mod Sound
 pub mod Soundness
 pub mod SourceLaws
 pub mod StreamCalls
-pub mod StreamLimits
 pub mod StreamLines
 pub mod StreamRuns
 pub mod TableLaws

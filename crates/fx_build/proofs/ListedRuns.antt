@@ -13,8 +13,8 @@ use Rattle.fx_build.specs.Rows.{TablesFit}
 use Rattle.fx_build.specs.Run.{script_run}
 use Rattle.fx_build.specs.Safe.{IsSafe}
 use Rattle.fx_build.specs.Sound.{IsSettingOf, RunFits, ShowsSafely}
-use Rattle.fx_build.specs.Sources.{AreLawful, Stored}
-use Rattle.fx_build.specs.Streams.{all_listed, listed_yield, shown_if, yield_meaning}
+use Rattle.fx_plan.specs.Sources.{AreLawful, Stored}
+use Rattle.fx_plan.specs.Streams.{all_listed, listed_yield, shown_if, yield_meaning}
 use Rattle.fx_build.proofs.RunLaws.{script_safe}
 use Rattle.fx_build.proofs.StreamRuns.{yield_safe}
 

@@ -18,7 +18,7 @@ use Rattle.fx_schemes.specs.declared.list.Builtin.{Builtin}
 use Rattle.fx_schemes.specs.declared.list.Builtin.TheVariants as b
 use Rattle.fx_meaning.specs.Value.{Val, Slots, no_slots, more_slots, look, is_there, push}
 use Rattle.fx_build.specs.Fit.{with_input}
-use Rattle.fx_build.specs.Said.{and_says, said_in}
+use Rattle.fx_plan.specs.Said.{and_says, said_in}
 use Rattle.fx_build.proofs.ParamLaws.{Suits, absent_suits, all_pass, passes}
 
 -- ---- no label of a line is another one
@@ -143,8 +143,3 @@ module _ (x : Builtin) (w : Given) (L : Line) (needs : GroundRow) (input : Groun
       unformed : (l : Label) (o : Option Form) → o ≡ form_of x l → is_there (look l args) ≡ true → is_none o ≡ true
       unformed l None e there = refl
       unformed l (Some f) e there = absurd (false≢true (sym (ap is_there (word_absent l f (look l args) (sym e) (suit l))) ∙ there))
-
--- what comes by the pipe says no words
-pub said_push : (x : Builtin) (args : Slots) (p : Label) (v : Val) → form_of x p ≡ None → said_in (Some x) (push args p v) ≡ said_in (Some x) args
-said_push x no_slots p v none = ap (λ o. and_says o p v (Some [])) none
-said_push x (more_slots y u args) p v none = ap (and_says (form_of x y) y u) (said_push x args p v none)

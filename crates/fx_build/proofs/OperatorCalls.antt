@@ -41,8 +41,8 @@ use Rattle.fx_build.specs.Bound.{typed}
 use Rattle.fx_build.specs.Fit.{FurtherFit, IsMoment, each_fits, fits, is_cell, keeps_at, with_input}
 use Rattle.fx_build.specs.Rows.{RowFits, TablesFit, is_column_of}
 use Rattle.fx_build.specs.Safe.{IsSafe}
-use Rattle.fx_build.specs.Sources.{AreLawful, Stored, source_tables}
-use Rattle.fx_build.specs.Operators.{bound_at, bound_or_now, bucket_tables, from_array, from_bucket, in_range, in_time, moment_in, no_argument, of_none, of_one, operator, row_in, text_at}
+use Rattle.fx_plan.specs.Sources.{AreLawful, Stored, source_tables}
+use Rattle.fx_plan.specs.Operators.{bound_at, bound_or_now, bucket_tables, from_array, from_bucket, in_range, in_time, moment_in, no_argument, of_none, of_one, operator, row_in, text_at}
 use Rattle.fx_build.proofs.KindLaws.{of_array, of_cell, of_record, of_span, of_text}
 use Rattle.fx_build.proofs.RowCalls.{tested_safe, turned_safe}
 use Rattle.fx_build.proofs.RowLaws.{no_columns, put_fits, row_safe}

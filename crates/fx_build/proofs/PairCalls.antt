@@ -29,7 +29,7 @@ use Rattle.fx_build.proofs.ParamLaws.{Suits}
 use Rattle.fx_build.proofs.RowCalls.{due_differ, due_listed, no_pipes, one_label}
 use Rattle.fx_build.proofs.RowLaws.{record_fits}
 use Rattle.fx_build.proofs.SafeLaws.{safe_cut, safe_then}
-use Rattle.fx_build.proofs.SlotLaws.{same_itself}
+use Rattle.fx_plan.proofs.SlotLaws.{same_itself}
 
 -- ---- two labels
 

@@ -16,7 +16,7 @@ use Rattle.fx_schemes.specs.Builtins.{differ}
 use Rattle.fx_infer.specs.Parameters.{param_names, field_if, first, input_of, is_optional, is_required, piped}
 use Rattle.fx_build.specs.Fit.{fits, with_input}
 use Rattle.fx_build.proofs.ArgLaws.{GivenFits}
-use Rattle.fx_build.proofs.SlotLaws.{same_itself}
+use Rattle.fx_plan.proofs.SlotLaws.{same_itself}
 
 -- ---- against a line
 

@@ -32,15 +32,15 @@ use Rattle.fx_shape.specs.Changed.{all_moved, is_bare, rows_after}
 use Rattle.fx_group.specs.Group.{is_listed as is_named}
 use Rattle.fx_shape.specs.Rename.{columns_renamed, is_covered, key_renamed, new_name, row_renamed}
 use Rattle.fx_meaning.specs.Rows.{Row}
-use Rattle.fx_build.specs.Operators.{renamed_by, renamed_in}
+use Rattle.fx_plan.specs.Operators.{renamed_by, renamed_in}
 use Rattle.fx_build.specs.Rows.{RowFits, TablesFit, is_column_of}
 use Rattle.fx_build.specs.Safe.{IsSafe}
-use Rattle.fx_build.specs.Sources.{Stored}
+use Rattle.fx_plan.specs.Sources.{Stored}
 use Rattle.fx_build.proofs.OperatorCalls.{OperatorIsSafe, by_line, one_safe}
 use Rattle.fx_build.proofs.TableLaws.{EachRow, gathered_all}
 use Rattle.fx_build.proofs.ColumnCalls.{get_left, named_listed}
 use Rattle.fx_build.proofs.RowLaws.{get_inserted, no_columns, tied}
-use Rattle.fx_build.proofs.SlotLaws.{same_itself}
+use Rattle.fx_plan.proofs.SlotLaws.{same_itself}
 
 -- ---- the type of a column under its new name
 

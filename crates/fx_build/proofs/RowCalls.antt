@@ -33,7 +33,7 @@ use Rattle.fx_build.proofs.NativeLaws.{labels}
 use Rattle.fx_build.proofs.ParamLaws.{Suits}
 use Rattle.fx_build.proofs.RowLaws.{no_columns, record_fits, row_safe}
 use Rattle.fx_build.proofs.SafeLaws.{safe_cut, safe_then}
-use Rattle.fx_build.proofs.SlotLaws.{same_itself}
+use Rattle.fx_plan.proofs.SlotLaws.{same_itself}
 
 -- ---- the parameter that gets the row
 

@@ -28,7 +28,8 @@ use Rattle.fx_build.specs.Rows.{RowFits, is_column_of}
 use Rattle.fx_build.specs.Safe.{IsSafe}
 use Rattle.fx_build.proofs.KindLaws.{of_cell}
 use Rattle.fx_build.proofs.SafeLaws.{safe_later}
-use Rattle.fx_build.proofs.SlotLaws.{AtSlot, keeps_in, keeps_out, or_none, same_itself}
+use Rattle.fx_plan.proofs.SlotLaws.{or_none, same_itself}
+use Rattle.fx_build.proofs.SlotLaws.{AtSlot, keeps_in, keeps_out}
 
 -- ---- labels by order, and by equality
 

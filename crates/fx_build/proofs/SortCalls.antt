@@ -20,10 +20,10 @@ use Rattle.fx_meaning.specs.Rows.{Row}
 use Rattle.fx_meaning.specs.Value.{Val, cell, Slots, look}
 use Rattle.fx_build.specs.Bound.{typed}
 use Rattle.fx_build.specs.Fit.{fits, keeps_at}
-use Rattle.fx_build.specs.Operators.{flag_at, flag_or_false, sorted_in}
+use Rattle.fx_plan.specs.Operators.{flag_at, flag_or_false, sorted_in}
 use Rattle.fx_build.specs.Rows.{RowFits, TablesFit}
 use Rattle.fx_build.specs.Safe.{IsSafe}
-use Rattle.fx_build.specs.Sources.{Stored}
+use Rattle.fx_plan.specs.Sources.{Stored}
 use Rattle.fx_build.proofs.ColumnCalls.{word_safe}
 use Rattle.fx_build.proofs.KindLaws.{of_cell, of_flag}
 use Rattle.fx_build.proofs.OperatorCalls.{OperatorIsSafe, by_line, one_safe}

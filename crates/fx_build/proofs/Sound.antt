@@ -42,7 +42,8 @@ use Rattle.fx_build.proofs.KindLaws.{fits_test, of_record}
 use Rattle.fx_build.proofs.NameLaws.{AsLiteral, Obeys, as_literal, closure_obeys, named_obeys, native_obeys}
 use Rattle.fx_build.proofs.OperatorLaws.{cell_in_safe, decided, indexed_safe, operate_safe, prefixed_safe, text_safe, truth_safe}
 use Rattle.fx_build.proofs.SafeLaws.{safe_as, safe_then}
-use Rattle.fx_build.proofs.SlotLaws.{AtSlot, joined, joined_none, joined_push, keeps_in, keeps_out, look_keep, same_itself}
+use Rattle.fx_plan.proofs.SlotLaws.{joined, joined_none, joined_push, look_keep, same_itself}
+use Rattle.fx_build.proofs.SlotLaws.{AtSlot, keeps_in, keeps_out}
 use Rattle.fx_build.proofs.WordLaws.{Says, first_rest, word_safe}
 
 pushed_fits : (vs : Vals) (v : Val) (t : Ground) → each_fits vs t → fits v t → each_fits (push_val vs v) t

@@ -20,7 +20,7 @@ use Rattle.fx_build.proofs.Callable.{nested_safe, trees_fit}
 use Rattle.fx_build.proofs.Entered.{TreesFit}
 use Rattle.fx_build.proofs.NativeCalls.{natives_run}
 use Rattle.fx_build.proofs.SafeLaws.{safe_cut, safe_every}
-use Rattle.fx_build.proofs.SlotLaws.{same_itself}
+use Rattle.fx_plan.proofs.SlotLaws.{same_itself}
 
 -- under each limit on how deep calls nest, the trees of typed expressions have values that fit
 pub nested_trees : (test : Tests) (n : ℕ) (setting : Setting) (moment : IsTrue (in_64_bits setting.moment)) → TreesFit test (nested test n) setting moment

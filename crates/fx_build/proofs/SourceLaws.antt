@@ -26,7 +26,7 @@ use Rattle.fx_line.specs.Stored.{IsLawful, IsStorable, SeriesId, StoredPoint, by
 use Rattle.fx_meaning.specs.Rows.{Row}
 use Rattle.fx_build.specs.Fit.{column_kind, is_cell}
 use Rattle.fx_build.specs.Rows.{RowFits, TablesFit, is_column_of}
-use Rattle.fx_build.specs.Sources.{is_wanted, row_at, series_table, source_tables, with_tags}
+use Rattle.fx_plan.specs.Sources.{is_wanted, row_at, series_table, source_tables, with_tags}
 use Rattle.fx_build.proofs.KindLaws.{fits_test}
 use Rattle.fx_build.proofs.RowLaws.{put_fits}
 use Rattle.fx_build.proofs.TableLaws.{gathered_all}

@@ -33,14 +33,15 @@ use Rattle.fx_meaning.specs.Value.{Val, cell, stream, shown, Vals, no_vals, more
 use Rattle.fx_build.specs.Bound.{typed}
 use Rattle.fx_build.specs.Fit.{ArgumentFits, FurtherFit, FurtherFits, InputsFit, IsMoment, each_fits, fits, inputs_at, inputs_fit, is_now, keeps_at, stream_fits, with_input}
 use Rattle.fx_build.specs.Safe.{IsSafe}
-use Rattle.fx_build.specs.Said.{and_says, said_in}
+use Rattle.fx_plan.specs.Said.{and_says, said_in}
 use Rattle.fx_build.proofs.Callable.{NativeRuns}
 use Rattle.fx_build.proofs.KindLaws.{of_cell, of_text}
-use Rattle.fx_build.proofs.NativeLaws.{said_push}
+use Rattle.fx_plan.proofs.SaidLaws.{kept_says, said_push}
 use Rattle.fx_build.proofs.ParamLaws.{Suits, absent_suits}
 use Rattle.fx_build.proofs.PlainCalls.{IsAt, argument_then, items_safe}
 use Rattle.fx_build.proofs.SafeLaws.{safe_as, safe_then}
-use Rattle.fx_build.proofs.SlotLaws.{AtSlot, keeps_in, look_keep, look_push, same_itself}
+use Rattle.fx_plan.proofs.SlotLaws.{look_keep, look_push, same_itself}
+use Rattle.fx_build.proofs.SlotLaws.{AtSlot, keeps_in}
 use Rattle.fx_build.proofs.StreamLines.{AreStreams, HasInputs, stream_lined}
 use Rattle.fx_build.proofs.TakenLaws.{line_taken, listed_passes, no_form}
 
@@ -111,15 +112,6 @@ input_unworded g l h =
     no_form (form_of (stream_builtin g) l) (listed_passes (λ l. is_none (form_of (stream_builtin g) l)) (input_labels g) l (all_unworded g) h)
 
 -- ---- the words of what is kept
-
-says_step : (x : Builtin) (y : Label) (v : Val) (args rest : Slots) (c : Bool) → (c ≡ false → form_of x y ≡ None) → said_in (Some x) rest ≡ said_in (Some x) args
-    → said_in (Some x) (if c then more_slots y v rest else rest) ≡ said_in (Some x) (more_slots y v args)
-says_step x y v args rest true none same = ap (and_says (form_of x y) y v) same
-says_step x y v args rest false none same = same ∙ sym (ap (λ o. and_says o y v (said_in (Some x) args)) (none refl))
-
-kept_says : (x : Builtin) (test : Label → Bool) (args : Slots) → ((l : Label) → test l ≡ false → form_of x l ≡ None) → said_in (Some x) (keep test args) ≡ said_in (Some x) args
-kept_says x test no_slots h = refl
-kept_says x test (more_slots y v args) h = says_step x y v args (keep test args) (test y) (h y) (kept_says x test args h)
 
 untrue : (c : Bool) → not c ≡ false → c ≡ true
 untrue true h = refl

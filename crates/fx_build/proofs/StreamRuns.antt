@@ -23,10 +23,10 @@ use Rattle.fx_meaning.specs.Value.{Slots, Stream, applied, Streams, no_streams, 
 use Rattle.fx_build.specs.Fit.{FurtherFit, InputsFit, inputs_at, inputs_fit, keeps_at, stream_fits, with_input}
 use Rattle.fx_build.specs.Rows.{TablesFit}
 use Rattle.fx_build.specs.Safe.{IsSafe}
-use Rattle.fx_build.specs.Said.{said_in}
-use Rattle.fx_build.specs.Operators.{operator}
-use Rattle.fx_build.specs.Sources.{AreLawful, Stored}
-use Rattle.fx_build.specs.Streams.{all_listed, counted, inputs_listed, inputs_run, is_listed, is_source, operator_run, size_of, sizes_of, stream_meaning, stream_run, yield_meaning}
+use Rattle.fx_plan.specs.Said.{said_in}
+use Rattle.fx_plan.specs.Operators.{operator}
+use Rattle.fx_plan.specs.Sources.{AreLawful, Stored}
+use Rattle.fx_plan.specs.Streams.{all_listed, counted, inputs_listed, inputs_run, is_listed, is_source, operator_run, size_of, sizes_of, stream_meaning, stream_run, yield_meaning}
 use Rattle.fx_build.proofs.ChoiceCalls.{first_safe, last_safe, max_safe, min_safe}
 use Rattle.fx_build.proofs.FoldCalls.{reduce_safe}
 use Rattle.fx_build.proofs.ColumnCalls.{drop_safe, duplicate_safe, fill_safe, group_safe, keep_safe, limit_safe, set_safe, tail_safe, union_safe}

@@ -28,11 +28,11 @@ use Rattle.fx_infer.specs.Words as written
 use Rattle.fx_build.specs.Bound.{Bound, unbound, typed, defined, packaged, find, Literal, literal, no_literal, literal_of}
 use Rattle.fx_build.specs.Fit.{IsUnbound, keeps_at}
 use Rattle.fx_build.specs.Safe.{IsSafe}
-use Rattle.fx_build.specs.Said.{text_in, item_texts, field_texts, labels_of, value_says}
+use Rattle.fx_plan.specs.Said.{text_in, item_texts, field_texts, labels_of, value_says}
 use Rattle.fx_build.proofs.KindLaws.{cell_answered, checked}
 use Rattle.fx_build.proofs.NameLaws.{AsLiteral, Obeys, answers, as_literal, named_obeys, scope_answers, unbound_itself}
 use Rattle.fx_build.proofs.SafeLaws.{safe_later, safe_then, safe_as}
-use Rattle.fx_build.proofs.SlotLaws.{same_itself}
+use Rattle.fx_plan.proofs.SlotLaws.{same_itself}
 
 -- ---- lists of words
 

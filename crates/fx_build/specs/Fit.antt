@@ -36,7 +36,7 @@ use Rattle.fx_infer.specs.Environment.{Env, HasType, scope}
 use Rattle.fx_infer.specs.Native.{IsValueOf}
 use Rattle.fx_infer.specs.Typing.{has_shape}
 use Rattle.fx_build.specs.Bound.{Bound, unbound, typed, defined, packaged, find, Literal, literal, no_literal, literal_of}
-use Rattle.fx_build.specs.Said.{said_in}
+use Rattle.fx_plan.specs.Said.{said_in}
 
 -- ---- values without parts
 

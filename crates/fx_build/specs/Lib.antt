@@ -1,10 +1,6 @@
 pub mod Bound
 pub mod Fit
-pub mod Operators
 pub mod Rows
 pub mod Run
 pub mod Safe
-pub mod Said
 pub mod Sound
-pub mod Sources
-pub mod Streams

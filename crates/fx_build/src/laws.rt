@@ -1,7 +1,7 @@
 //! What is typed is never stuck: each law as the contract of a function that does nothing.
 ghost use Rattle.std.specs.Prelude.{◌≡◌, ◌∷◌, ℕ, List, [], true};
 ghost use Rattle.fx_base.specs.declared.place.Place.{Place};
-ghost use Rattle.fx_value.specs.Ends.{End, IsLimited};
+ghost use Rattle.fx_value.specs.Ends.{End};
 ghost use Rattle.fx_types.specs.Ground.{Ground, GroundRow, g_stream};
 ghost use Rattle.fx_types.specs.Term.{Label};
 ghost use Rattle.fx_ast.specs.Free.{free};
@@ -17,8 +17,8 @@ ghost use Rattle.fx_build.specs.Rows.{TablesFit};
 ghost use Rattle.fx_build.specs.Run.{script_run};
 ghost use Rattle.fx_build.specs.Safe.{IsSafe};
 ghost use Rattle.fx_build.specs.Sound.{FitsAll, IsSettingOf, RunFits, ShowsSafely};
-ghost use Rattle.fx_build.specs.Sources.{AreLawful, Stored};
-ghost use Rattle.fx_build.specs.Streams.{all_listed, listed_yield, stream_meaning, yield_meaning};
+ghost use Rattle.fx_plan.specs.Sources.{AreLawful, Stored};
+ghost use Rattle.fx_plan.specs.Streams.{all_listed, listed_yield, stream_meaning, yield_meaning};
 
 /// A typed expression, in values that meet its environment, is Stuck under no limit, and its value
 /// fits each of its types.
@@ -32,13 +32,6 @@ pub fn expressions_are_sound()
 pub fn streams_are_sound()
     ensures tables { (test : Tests) (stored : Stored) (call : Stream) (r : GroundRow) (limit : ℕ) → AreLawful stored → all_listed call ≡ true → stream_fits call (g_stream r) → IsSafe (TablesFit r) (stream_meaning test stored call limit) }
     ensures shown { (test : Tests) (stored : Stored) (call : Stream) (r : GroundRow) (limit : ℕ) → AreLawful stored → all_listed call ≡ true → stream_fits call (g_stream r) → IsSafe (TablesFit r) (yield_meaning test stored call limit) }
-{}
-
-/// The law of the limit: a stream and its yield end within their limit or are More, and an end
-/// stays the same under each greater limit. So there is one end at most.
-pub fn streams_are_limited()
-    ensures tables { (test : Tests) (stored : Stored) (call : Stream) → IsLimited (stream_meaning test stored call) }
-    ensures shown { (test : Tests) (stored : Stored) (call : Stream) → IsLimited (yield_meaning test stored call) }
 {}
 
 /// The run of a script with a typing is Stuck under no limit, in a setting with its patterns, where

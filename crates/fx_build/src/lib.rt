@@ -1,7 +1,7 @@
-//! Which values fit which types, what the run of a script is and what streams mean; and the laws
+//! Which values fit which types, and what the run of a script is; and the laws
 //! that what is typed is never stuck.
 #![tactic(auto)]
 
 mod laws;
 
-pub use laws::{expressions_are_sound, runs_are_sound, streams_are_limited, streams_are_sound};
+pub use laws::{expressions_are_sound, runs_are_sound, streams_are_sound};

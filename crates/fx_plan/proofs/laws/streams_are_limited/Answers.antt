@@ -1,5 +1,5 @@
-use Rattle.fx_build.proofs.StreamLimits.{stream_limited, yield_limited}
-use Rattle.fx_build.proofs.laws.streams_are_limited.Goals as goal
+use Rattle.fx_plan.proofs.StreamLimits.{stream_limited, yield_limited}
+use Rattle.fx_plan.proofs.laws.streams_are_limited.Goals as goal
 
 pub returns : goal.returns
 returns c = record {

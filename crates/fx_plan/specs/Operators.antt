@@ -40,7 +40,7 @@ use Rattle.fx_meaning.specs.Forms.{argument, cell_of, each, fields_in, items_of,
 use Rattle.fx_meaning.specs.Meaning.{Tests}
 use Rattle.fx_meaning.specs.Rows.{Row, row_from, row_meaning}
 use Rattle.fx_meaning.specs.Value.{Val, cell, span, Slots, look}
-use Rattle.fx_build.specs.Sources.{Stored, source_tables}
+use Rattle.fx_plan.specs.Sources.{Stored, source_tables}
 
 -- ---- arguments
 

@@ -10,9 +10,9 @@ use Rattle.fx_meaning.specs.Ends.{◌>>=◌, found, pure}
 use Rattle.fx_meaning.specs.Meaning.{Tests}
 use Rattle.fx_meaning.specs.Native.{stream_builtin}
 use Rattle.fx_meaning.specs.Value.{Slots, Stream, applied, Streams, no_streams, more_streams}
-use Rattle.fx_build.specs.Operators.{operator}
-use Rattle.fx_build.specs.Said.{said_in}
-use Rattle.fx_build.specs.Sources.{Stored}
+use Rattle.fx_plan.specs.Operators.{operator}
+use Rattle.fx_plan.specs.Said.{said_in}
+use Rattle.fx_plan.specs.Sources.{Stored}
 
 -- ---- ticks
 

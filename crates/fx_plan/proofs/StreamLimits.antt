@@ -30,10 +30,10 @@ use Rattle.fx_meaning.specs.Native.{stream_builtin}
 use Rattle.fx_meaning.specs.Rows.{Row, row_meaning}
 use Rattle.fx_meaning.specs.Value.{Slots, Stream, applied, Streams, no_streams, more_streams}
 use Rattle.fx_meaning.proofs.MeaningLaws.{row_limited}
-use Rattle.fx_build.specs.Operators.{drops, of_folded_rows, of_made_rows, of_one, of_pairs, of_times, of_two, of_wanted_rows, operator, row_in, side_named}
-use Rattle.fx_build.specs.Said.{said_in}
-use Rattle.fx_build.specs.Sources.{Stored}
-use Rattle.fx_build.specs.Streams.{counted, inputs_run, is_source, operator_run, size_of, sizes_of, stream_meaning, stream_run, yield_meaning}
+use Rattle.fx_plan.specs.Operators.{drops, of_folded_rows, of_made_rows, of_one, of_pairs, of_times, of_two, of_wanted_rows, operator, row_in, side_named}
+use Rattle.fx_plan.specs.Said.{said_in}
+use Rattle.fx_plan.specs.Sources.{Stored}
+use Rattle.fx_plan.specs.Streams.{counted, inputs_run, is_source, operator_run, size_of, sizes_of, stream_meaning, stream_run, yield_meaning}
 
 -- ---- operators that call functions of rows
 

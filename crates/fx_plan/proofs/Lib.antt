@@ -1,0 +1,3 @@
+pub mod SaidLaws
+pub mod SlotLaws
+pub mod StreamLimits

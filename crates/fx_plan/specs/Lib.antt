@@ -1,0 +1,4 @@
+pub mod Operators
+pub mod Said
+pub mod Sources
+pub mod Streams
