@@ -32,12 +32,13 @@ fn is_kept(which: Agg, best: &Option<(Scalar, Row)>, value: &Scalar) -> bool
 fn offer(
     which: Agg,
     column: &Text,
+    place: &mut usize,
     best: &mut Option<(Scalar, Row)>,
     row: Row,
 ) -> Result<(), Memory>
     ensures { OnOk result (best.new ≡ better (stays which) best.old (candidate column.now row)) }
 {
-    let value = match row.get(column) {
+    let value = match row.get_near(column, place) {
         None | Some(Scalar::Null) => return Ok(()),
         Some(value) => {
             if is_kept(which, best, value) {
@@ -55,8 +56,9 @@ pub(crate) fn chosen(which: Agg, column: &Text, rows: List<Row>) -> Result<Optio
     ensures { IfOk result (λ row. option_to_list row ≡ chosen which column.now rows) }
 {
     let mut best = None;
+    let mut place = 0;
     for row in rows.into_vec() {
-        offer(which, column, &mut best, row)?;
+        offer(which, column, &mut place, &mut best, row)?;
     }
     match best {
         None => Ok(None),

@@ -91,8 +91,9 @@ fn tally_of(column: &Text, rows: &[Row]) -> Option<Tally>
     ensures { into tallied Nothing (integers column.now rows.now) ≡ Gives result 0 }
 {
     let mut tally = None;
+    let mut place = 0;
     for row in rows {
-        tally = more(tally, int_at(row.get(column)));
+        tally = more(tally, int_at(row.get_near(column, &mut place)));
     }
     tally
 }

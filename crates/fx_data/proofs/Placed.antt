@@ -1,10 +1,11 @@
 -- Rows put behind those of a table among tables whose keys rise.
-use Rattle.std.proofs.Common.{◌≡◌, ℕ, suc, zero, ◌<◌, ◌≤◌, Bool, true, false, List, [], ◌∷◌, ◌++◌, map, length, get_or, refl, sym, ap, subst, ◌∙◌, arith}
+use Rattle.std.proofs.Common.{◌≡◌, ℕ, suc, zero, ◌+◌, ◌<◌, ◌≤◌, Bool, true, false, List, [], ◌∷◌, ◌++◌, map, length, get_or, refl, sym, ap, subst, ◌∙◌, arith}
 use Rattle.std.proofs.lemmas.List.Sorted.{searchable_from_sorted}
 use Rattle.std.proofs.Math.ListN.{set}
 use Rattle.std.specs.Prelude.{cond, Option, Some, Result, Ok, Err, IfOk, IfErr}
+use Rattle.std.specs.declared.cmp.Ordering.{Ordering}
 use Rattle.std.specs.declared.cmp.Ordering.TheVariants.{Less, Equal, Greater}
-use Rattle.std.specs.Ordering.{is_eq, eq_by_cmp, ordering_reverse}
+use Rattle.std.specs.Ordering.{is_eq, is_lt, eq_by_cmp, ordering_reverse}
 use Rattle.std.specs.Option.{unwrap_or}
 use Rattle.std.specs.Cmp.{Equal-is}
 use Rattle.std.specs.List.{AllByRecursion, AllWithin, HoldsAt, insert}
@@ -124,6 +125,30 @@ belongs key (t ∷ ts) zero within lower greater =
     (greater 0 t (omega arith) (omega arith), belongs key ts zero (omega arith) (λ k d low high. absurd (omega arith)) (λ k d low high. greater (suc k) d (omega arith) (omega arith)))
 belongs key (t ∷ ts) (suc i) within lower greater =
     (lower 0 t (omega arith) (omega arith), belongs key ts i (omega arith) (λ k d low high. lower (suc k) d (omega arith) (omega arith)) (λ k d low high. greater (suc k) d (omega arith) (omega arith)))
+
+below_at : (k : Key) (ts : List Table) (i : ℕ) (t : Table) → AllByRecursion (λ q. key_cmp k q ≡ Less) (map (λ u. u.key) ts) → i < length ts
+    → t ≡ get_or ts i t → key_cmp k t.key ≡ Less
+below_at k [] i t h within is = absurd (omega arith)
+below_at k (u ∷ ts) zero t h within is = ap (λ (x : Table). key_cmp k x.key) is ∙ h.0
+below_at k (u ∷ ts) (suc i) t h within is = below_at k ts i t h.1 (omega arith) is
+
+pub less_is : (o : Ordering) → is_lt o ≡ true → o ≡ Less
+less_is Less h = refl
+less_is Equal h = cc
+less_is Greater h = cc
+
+-- a key above that of the last table belongs behind all of them
+pub belongs_last : (key : Key) (ts : List Table) (i : ℕ) (t : Table) → Rise ts → i + 1 ≡ length ts → t ≡ get_or ts i t → key_cmp t.key key ≡ Less
+    → BelongsIn key ts (length ts)
+unfolding IsStrictlySortedBy
+belongs_last key [] i t rise last is below = absurd (omega (arith, last))
+belongs_last key (u ∷ []) zero t rise last is below = (ap (λ (x : Table). key_cmp x.key key) (sym is) ∙ below, refl)
+belongs_last key (u ∷ v ∷ ts) zero t rise last is below = absurd (omega (arith, last))
+belongs_last key (u ∷ []) (suc i) t rise last is below = absurd (omega (arith, last))
+belongs_last key (u ∷ v ∷ ts) (suc i) t rise last is below = (
+  key_cmp_total.trans u.key t.key key (below_at u.key (v ∷ ts) i t rise.0 (omega (arith, last)) is) below,
+  belongs_last key (v ∷ ts) i t rise.1 (omega (arith, last)) is below,
+)
 
 pub belongs_within : (key : Key) (ts : List Table) (i : ℕ) → BelongsIn key ts i → i ≤ length ts
 belongs_within key [] i at = omega (arith, at)

@@ -48,13 +48,20 @@ pub fn new_key(alloc: Global, old: &Key, row: &Row) -> Result<Key, Memory>
 }
 
 /// How many of the known entries stand before those that come after this old one, if it becomes the
-/// next of them or none.
-fn matched(known: &[KeyEntry], done: usize, entry: &KeyEntry, row: &Row) -> Option<usize>
+/// next of them or none. The labels of a key rise as those of rows do: the row's label is looked for
+/// from the place of the last one on.
+fn matched(
+    known: &[KeyEntry],
+    done: usize,
+    entry: &KeyEntry,
+    row: &Row,
+    place: &mut usize,
+) -> Option<usize>
     requires { done ≤ length known.now }
     ensures within { IfSome result (λ next. next ≤ length known.now) }
     ensures same { IfSome result (λ next. take next known.now ≡ take done known.now ++ filter_map (after row.now) (entry.now ∷ [])) }
 {
-    match row.get(&entry.label) {
+    match row.get_near(&entry.label, place) {
         Some(value) => {
             if done < known.len() && known[done].is_column(&entry.label, value) {
                 return Some(done + 1);
@@ -79,8 +86,9 @@ pub(crate) fn is_new_key(known: &Key, old: &Key, row: &Row) -> bool
 {
     let entries = known.entries.as_slice();
     let mut done = 0;
+    let mut place = 0;
     for entry in old.entries.as_slice() {
-        match matched(entries, done, entry, row) {
+        match matched(entries, done, entry, row, &mut place) {
             None => return false,
             Some(next) => done = next,
         }

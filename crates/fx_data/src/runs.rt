@@ -1,4 +1,4 @@
-ghost use Rattle.std.specs.Prelude.{◌≡◌, ◌<◌, [], ◌∷◌, ◌++◌, map, vec_len, IfOk, IfErr, IfSome, IsTrue, OnOk};
+ghost use Rattle.std.specs.Prelude.{◌≡◌, ◌<◌, [], ◌∷◌, ◌++◌, length, map, vec_len, IfOk, IfErr, IfSome, IsTrue, OnOk};
 ghost use Rattle.std.specs.List.{AllByRecursion};
 ghost use Rattle.std.specs.FinMap as fin;
 ghost use Rattle.fx_data.specs.Ascending.{Rise};
@@ -93,7 +93,7 @@ impl Runs {
     {
         let Runs { tables, place } = self;
         match place {
-            Some(_) => with_placed_table(tables, table),
+            Some(place) => with_placed_table(tables, place, table),
             None => {
                 let tables = with_table(tables, table)?;
                 Ok(Runs {
@@ -187,27 +187,68 @@ fn with_placed_row(
                 place: Some(place),
             })
         }
-        None => with_placed_table(tables, lone(alloc, key, row)?),
+        None => with_placed_table(tables, place, lone(alloc, key, row)?),
     }
 }
 
-/// Where the table with this key stands, or where it would.
-fn place_of(tables: &[Table], key: &Key) -> Result<usize, usize>
+/// Whether the table at the place has this key; false says nothing.
+fn has_key_at(tables: &[Table], place: usize, key: &Key) -> bool
+    ensures { IsTrue result → KeyAt key.now tables.now place }
+{
+    place < tables.len() && key_order(&tables[place].key, key).is_eq()
+}
+
+/// The table with this key, if it is the last one that a row went to, the one behind it or the
+/// first.
+fn key_near(tables: &[Table], place: usize, key: &Key) -> Option<usize>
+    ensures { IfSome result (KeyAt key.now tables.now) }
+{
+    if has_key_at(tables, place, key) {
+        return Some(place);
+    }
+    let next = if place < tables.len() { place + 1 } else { 0 };
+    if has_key_at(tables, next, key) {
+        return Some(next);
+    }
+    if has_key_at(tables, 0, key) {
+        return Some(0);
+    }
+    None
+}
+
+/// Whether this key is above those of the tables, which rise; false says nothing.
+fn is_above(tables: &[Table], key: &Key) -> bool
+    requires { Rise tables.now }
+    ensures { IsTrue result → BelongsIn key.now tables.now (length tables.now) }
+{
+    let count = tables.len();
+    count > 0 && key_order(&tables[count - 1].key, key).is_lt()
+}
+
+/// Where the table with this key stands, or where it would. Of tables that come in the order of their
+/// keys none is searched for.
+fn place_of(tables: &[Table], place: usize, key: &Key) -> Result<usize, usize>
     requires { Rise tables.now }
     ensures found { IfOk result (KeyAt key.now tables.now) }
     ensures missed { IfErr result (BelongsIn key.now tables.now) }
 {
+    if let Some(place) = key_near(tables, place, key) {
+        return Ok(place);
+    }
+    if is_above(tables, key) {
+        return Err(tables.len());
+    }
     tables.binary_search_by(|table| key_order(&table.key, key))
 }
 
 /// The runs with the rows of one more table, where the keys of the tables rise.
-fn with_placed_table(mut tables: Vec<Table>, table: Table) -> Result<Runs, Memory>
+fn with_placed_table(mut tables: Vec<Table>, place: usize, table: Table) -> Result<Runs, Memory>
     requires rising { Rise tables.items }
     requires each { AllByRecursion IsLawfulTable tables.items }
     requires lawful { IsLawfulTable table }
     ensures { IfOk result (λ runs. runs ≡ joined (grouped tables.items) table) }
 {
-    match place_of(tables.as_slice(), &table.key) {
+    match place_of(tables.as_slice(), place, &table.key) {
         Ok(place) => {
             push_rows_at(&mut tables, place, table.rows)?;
             Ok(Runs {

@@ -1,12 +1,15 @@
 -- A head as the map of its slots.
-use Rattle.std.proofs.Common.{◌≡◌, ℕ, Bool, true, false, T, List, [], ◌∷◌, map, length, get_or, take, drop, suc, ◌+◌, ◌<◌, ◌++◌, filter_map, refl, sym, ap, subst, ◌∙◌, arith, drop-cons}
+use Rattle.std.proofs.Common.{◌≡◌, ℕ, Bool, true, false, T, List, [], ◌∷◌, map, length, get_or, take, drop, zero, suc, ◌+◌, ◌<◌, ◌++◌, filter_map, refl, sym, ap, subst, ◌∙◌, arith, drop-cons}
 use Rattle.std.specs.Prelude.{cond, ◌&&◌, ◌||◌, not, Option, None, Some, IsTrue, ◌↔◌}
 use Rattle.std.specs.Cmp.Lexicographic.{texts_ties, pointwise, pointwise_decides, bytes_decides, nat_list_cmp_total}
-use Rattle.std.specs.Ordering.{eq_by_cmp, is_eq}
+use Rattle.std.specs.Ordering.{eq_by_cmp, is_eq, is_lt}
+use Rattle.std.specs.declared.cmp.Ordering.{Ordering}
+use Rattle.std.specs.declared.cmp.Ordering.TheVariants.{Less, Equal, Greater}
+use Rattle.std.proofs.lemmas.Float.{T_from_true}
 use Rattle.std.specs.Cmp.{Equal-is, eq_by_cmp_equiv, alike_right}
 use Rattle.std.specs.FinMap as fin
 use Rattle.std.specs.FinMap.{FinMap}
-use Rattle.std.specs.FinMap.Entries.{find, find-where_key, put, where_key, is_sorted, is_sorted-put, is_sorted-where_key}
+use Rattle.std.specs.FinMap.Entries.{find, find-where_key, put, where_key, below_all, is_sorted, is_sorted-put, is_sorted-where_key}
 use Rattle.fx_base.specs.Text.{text_cmp, same_text}
 use Rattle.fx_value.specs.Row.{IsOnly}
 use Rattle.fx_value.proofs.Rows.{text_same}
@@ -153,3 +156,39 @@ found_later cs k i c within is other ahead =
     ahead ∙ ap (λ ds. find text_cmp k (entries_of ds)) (drop-cons cs i c within)
     ∙ ap (λ b. cond b (Some (get_or cs i c).source) (find text_cmp k (entries_of (drop (suc i) cs)))) (sym (same_by_cmp (get_or cs i c).label k) ∙ ap (λ (s : Slot). same_text s.label k) (sym is) ∙ other)
     ∙ (let next : suc i ≡ i + 1 = omega arith in ap (λ n. find text_cmp k (entries_of (drop n cs))) next)
+
+is_true : (b : Bool) → T b → b ≡ true
+is_true true t = refl
+is_true false t = absurd t
+
+-- what stands behind a label among labels that rise is above it
+above : (x k : List ℕ) (cs : List Slot) (i : ℕ) (d : Slot) → T (below_all text_cmp x (entries_of cs)) → i < length cs
+    → same_text (get_or cs i d).label k ≡ true → is_lt (text_cmp x k) ≡ true
+above x k [] i d b within same = absurd (omega arith)
+above x k (c ∷ cs) zero d b within same =
+    ap (λ q. is_lt (text_cmp x q)) (sym ((bytes_decides c.label k).0 same)) ∙ first_so _ _ (is_true _ b)
+above x k (c ∷ cs) (suc i) d b within same = above x k cs i d (T_from_true _ (second_so _ _ (is_true _ b))) (omega arith) same
+
+no_tie : (o : Ordering) → is_lt o ≡ true → is_eq o ≡ false
+no_tie Less h = refl
+no_tie Equal h = cc
+no_tie Greater h = cc
+
+-- among labels that rise, the slot with the label is the first that has it
+stands : (cs : List Slot) (k : List ℕ) (i : ℕ) (d : Slot) → IsRising (entries_of cs) → i < length cs
+    → same_text (get_or cs i d).label k ≡ true → find text_cmp k (entries_of cs) ≡ Some (get_or cs i d).source
+stands [] k i d rising within same = absurd (omega arith)
+stands (c ∷ cs) k zero d rising within same =
+    ap (λ b. cond b (Some c.source) (find text_cmp k (entries_of cs))) (sym (same_by_cmp c.label k) ∙ same)
+stands (c ∷ cs) k (suc i) d rising within same =
+    ap (λ b. cond b (Some c.source) (find text_cmp k (entries_of cs)))
+    ((eq_by_cmp_equiv nat_list_cmp_total).symm k c.label
+    ∙ no_tie (text_cmp c.label k) (above c.label k cs i d (T_from_true _ (first_so _ _ (is_true _ rising))) (omega arith) same))
+    ∙ stands cs k i d (T_from_true _ (second_so _ _ (is_true _ rising))) (omega arith) same
+
+pub found_by_order : (cs : List Slot) (k : List ℕ) (i : ℕ) (c : Slot) → IsRising (entries_of cs) → i < length cs → c ≡ get_or cs i c
+    → same_text c.label k ≡ true → IsFoundAt cs k i
+found_by_order cs k i c rising within is same = record {
+  within = within;
+  source = λ d. stands cs k i d rising within (ap (λ (s : Slot). same_text s.label k) (get_or_default cs i d c within ∙ sym is) ∙ same);
+}

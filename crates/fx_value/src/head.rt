@@ -8,8 +8,8 @@ ghost use Rattle.fx_value.specs.Row.{IsOnly, shared};
 use crate::labels::Labels;
 use crate::scalar::Scalar;
 use crate::slot::{
-    Slot, are_in, are_same, copy_of, have_same_labels, index_of, is_first_alone, is_second_alone,
-    labels_in, shared_in, with_source, without_label,
+    Slot, are_in, are_same, copy_of, have_same_labels, index_near, index_of, is_first_alone,
+    is_second_alone, labels_in, shared_in, with_source, without_label,
 };
 use crate::source::Source;
 use fx_base::{List, Memory, Text};
@@ -64,6 +64,19 @@ impl Head {
     {
         match index_of(&self.slots, label) {
             Some(i) => Some(&self.slots[i].source),
+            None => None,
+        }
+    }
+
+    /// The same. The search begins at the place, and leaves there where the label stands.
+    pub(crate) fn get_near(&self, label: &Text, place: &mut usize) -> Option<&Source>
+        ensures { option_map (λ s. s.now) result ≡ map.get self.now label.now }
+    {
+        match index_near(&self.slots, label, *place) {
+            Some(i) => {
+                *place = i;
+                Some(&self.slots[i].source)
+            }
             None => None,
         }
     }

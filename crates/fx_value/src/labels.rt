@@ -80,6 +80,16 @@ impl Labels {
         }
     }
 
+    /// The same. The search begins at the place, and leaves there where the label stands.
+    pub fn get_near(&self, label: &Text, place: &mut usize) -> Option<&Source>
+        ensures { option_map (λ s. s.now) result ≡ map.get self.now label.now }
+    {
+        match own_source(&self.own, label) {
+            Some(source) => Some(source),
+            None => self.shared.as_ref().get_near(label, place),
+        }
+    }
+
     pub fn has(&self, label: &Text) -> bool
         ensures { result ≡ map.contains_key self.now label.now }
     {

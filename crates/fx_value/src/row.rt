@@ -3,6 +3,7 @@ ghost use Rattle.std.specs.Option.{option_map};
 ghost use Rattle.std.specs.FinMap as map;
 ghost use Rattle.fx_value.specs.Change.{all_changed, IsReshape};
 ghost use Rattle.fx_value.specs.Row.{row_of};
+ghost use Rattle.fx_value.specs.Source.{value_at};
 
 use crate::change::{Change, Reshape};
 use crate::head::OwnPlace;
@@ -65,12 +66,20 @@ impl Row {
     pub fn get(&self, label: &Text) -> Option<&Scalar>
         ensures { option_map (λ v. v.now) result ≡ map.get self.now label.now }
     {
-        match self.labels.get(label) {
-            None => None,
-            Some(Source::Fixed(value)) => Some(value),
-            Some(Source::First) => Some(&self.first),
-            Some(Source::Second) => Some(&self.second),
-        }
+        value_of(self.labels.get(label), &self.first, &self.second)
+    }
+
+    /// The same, for a label that is looked up in many rows. `place` is 0 before the first of them,
+    /// and then where the last had the label: there the search begins. Of rows with the same labels
+    /// each but the first costs one comparison. No value of it changes the answer.
+    pub fn get_near(&self, label: &Text, place: &mut usize) -> Option<&Scalar>
+        ensures { option_map (λ v. v.now) result ≡ map.get self.now label.now }
+    {
+        value_of(
+            self.labels.get_near(label, place),
+            &self.first,
+            &self.second,
+        )
     }
 
     /// Another row that is the same map. It allocates nothing.
@@ -162,6 +171,22 @@ impl Row {
         ensures { IsTrue result ↔ (map.keys self.now ≡ map.keys other.now) }
     {
         self.labels.are_same(&other.labels)
+    }
+}
+
+/// The value of the source in a row that has these values of its own.
+fn value_of<'a>(
+    source: Option<&'a Source>,
+    first: &'a Scalar,
+    second: &'a Scalar,
+) -> Option<&'a Scalar>
+    ensures { option_map (λ v. v.now) result ≡ option_map (value_at first.now second.now) (option_map (λ s. s.now) source.entry) }
+{
+    match source {
+        None => None,
+        Some(Source::Fixed(value)) => Some(value),
+        Some(Source::First) => Some(first),
+        Some(Source::Second) => Some(second),
     }
 }
 

@@ -8,7 +8,7 @@ ghost use Rattle.std.specs.List.{filter_map, list_all};
 ghost use Rattle.fx_value.specs.Row.{shared_cell};
 ghost use Rattle.fx_value.specs.Place.{StandsAt, BelongsAt};
 ghost use Rattle.fx_value.specs.Source.{is_first, is_second};
-ghost use Rattle.fx_value.specs.Slots.{entry_of, entries_of, labels_of, is_alone, others, IsFoundAt};
+ghost use Rattle.fx_value.specs.Slots.{entry_of, entries_of, labels_of, is_alone, others, IsFoundAt, IsRising};
 
 use crate::labels::Labels;
 use crate::scalar::Scalar;
@@ -85,6 +85,20 @@ pub fn index_of(slots: &Vec<Slot>, label: &Text) -> Option<usize>
         }
     }
     None
+}
+
+/// The same among slots whose labels rise, where the search begins at a place at which the label is
+/// awaited.
+pub fn index_near(slots: &Vec<Slot>, label: &Text, place: usize) -> Option<usize>
+    requires { IsRising (entries_of slots.now.items) }
+    ensures { MatchOption result (find text_cmp label.now (entries_of slots.now.items) ≡ None) (IsFoundAt slots.now.items label.now) }
+{
+    for i in place..slots.len() {
+        if slots[i].label == *label {
+            return Some(i);
+        }
+    }
+    index_of(slots, label)
 }
 
 /// The same slots, with room for one more. Their texts are shared.

@@ -16,7 +16,7 @@ int_at-requires c =
     let i = c.loop-row.row-index in
     let split : drop i rows ≡ c.row-item.result ∷ drop (i + 1) rows = drop_more rows i c.row-item.result (omega arith) ∙ ap (λ r. r ∷ drop (i + 1) rows) (sym c.row-item.is) in
     λ stuck. item_unstuck tallied (λ row. int_of (get row column)) (into tallied None (integers column rows)) c.loop-row.tally (drop i rows) c.loop-row.invariant.same
-    c.row-item.result (drop (i + 1) rows) split (into_unstuck tallied None (integers column rows) c.requires) (ap int_of (sym c.get.ensures) ∙ stuck)
+    c.row-item.result (drop (i + 1) rows) split (into_unstuck tallied None (integers column rows) c.requires) (ap int_of (sym c.get_near.ensures) ∙ stuck)
 
 pub more-tally-requires : goal.more-tally-requires
 more-tally-requires c = roomy c.loop-row.tally c.loop-row.row-index (omega arith) c.loop-row.invariant.room
@@ -30,7 +30,7 @@ loop-row-preserved c =
     record {
       same =
           item_gives tallied (λ row. int_of (get row column)) (into tallied None (integers column rows)) c.loop-row.tally (drop i rows) c.loop-row.invariant.same
-          c.row-item.result (drop (i + 1) rows) split tallied_more (option_to_list c.int_at.result) (ap int_of (sym c.get.ensures) ∙ c.int_at.ensures)
+          c.row-item.result (drop (i + 1) rows) split tallied_more (option_to_list c.int_at.result) (ap int_of (sym c.get_near.ensures) ∙ c.int_at.ensures)
           ∙ ap (λ t. into tallied t (integers column (drop (i + 1) rows))) (sym c.more-tally.ensures.tally);
       room = c.more-tally.ensures.room i c.loop-row.invariant.room;
     }
