@@ -1,5 +1,5 @@
 -- Kinds that are left to a type variable, and bounds.
-use Rattle.std.proofs.Common.{◌≡◌, ◌↔◌, ◌⊎◌, inl, inr, refl, sym, ap, subst, ◌∙◌, ℕ, ◌+◌, ◌<◌, Bool, true, false, List, [], ◌∷◌, ◌++◌, get_or, arith}
+use Rattle.std.proofs.Common.{◌≡◌, ◌↔◌, ◌⊎◌, inl, inr, refl, sym, ap, subst, ◌∙◌, ℕ, ◌+◌, ◌≤◌, ◌<◌, max, Bool, true, false, List, [], ◌∷◌, ◌++◌, get_or, arith}
 use borrow.Author.Count.{below_more}
 use mathlib.Core.Bool.{true≢false}
 use Rattle.fx_types.specs.Ground.{Ground, g_bool, g_int, g_text, g_time, g_span, g_pattern, g_done, g_array, g_fun, g_rec, g_stream}
@@ -11,7 +11,7 @@ use Rattle.fx_value.specs.declared.scalar.Kind.{Kind}
 use Rattle.fx_value.specs.declared.scalar.Kind.TheVariants as kind
 use Rattle.fx_generalize.specs.declared.solved.VarBound.{VarBound}
 use Rattle.fx_generalize.specs.Named.{IsBounded}
-use Rattle.fx_generalize.specs.Solved.{KeepsKinds}
+use Rattle.fx_generalize.specs.Solved.{AreAbove, Ascend, KeepsKinds, numbers_bounds}
 use Rattle.fx_generalize.proofs.UseLaws.{kinds_last}
 
 among_last : (ks : List Kind) (k : Kind) (span : Bool) (g : Ground) → IsAmong (ks ++ k ∷ []) span g ↔ (IsAmong ks span g ⊎ (g ≡ of_kind k))
@@ -122,3 +122,29 @@ module _ (ks : List sorts.Sorts) (ns : List ℕ) (i : ℕ) (before : List VarBou
     λ h. (let here : allows set (q.type_of i) ≡ true = subst (λ j. allows j (q.type_of i) ≡ true) (sym is) (h i (omega arith) (ap (λ j. allows j g_pattern) (sym is) ∙ scalar)) in
         subst (KeepsKinds q) (sym pushed) ((kinds_last q before b).1 ((made q).1 (λ k lt. h k (omega arith)), (exact (q.type_of b.var)).1 (subst (λ n. allows set (q.type_of n) ≡ true) (sym at) here)))),
   )
+
+-- bounds in the order of their variables
+
+above_last : (n : ℕ) (bs : List VarBound) (b : VarBound) → AreAbove n bs → n < b.var → AreAbove n (bs ++ b ∷ [])
+above_last n [] b h lt = (lt, tt)
+above_last n (c ∷ bs) b h lt = (h.0, above_last n bs b h.1 lt)
+
+ascend_last : (bs : List VarBound) (b : VarBound) → Ascend bs → numbers_bounds bs ≤ b.var → Ascend (bs ++ b ∷ [])
+ascend_last [] b h le = (tt, tt)
+ascend_last (c ∷ bs) b h le = let most : max (c.var + 1) (numbers_bounds bs) ≤ b.var = le in (above_last c.var bs b h.0 (omega arith), ascend_last bs b h.1 (omega arith))
+
+max_none : (k : ℕ) → max k 0 ≡ max 0 k
+max_none k = omega arith
+
+max_last : (a m n k : ℕ) → m ≡ max n k → max a m ≡ max (max a n) k
+max_last a m n k h = omega arith
+
+numbers_last : (bs : List VarBound) (b : VarBound) → numbers_bounds (bs ++ b ∷ []) ≡ max (numbers_bounds bs) (b.var + 1)
+numbers_last [] b = max_none (b.var + 1)
+numbers_last (c ∷ bs) b = max_last (c.var + 1) (numbers_bounds (bs ++ b ∷ [])) (numbers_bounds bs) (b.var + 1) (numbers_last bs b)
+
+pub ascend_more : (bs more : List VarBound) (b : VarBound) (i : ℕ) → more ≡ bs ++ b ∷ [] → b.var ≡ i → Ascend bs → numbers_bounds bs ≤ i → Ascend more × (numbers_bounds more ≤ i + 1)
+ascend_more bs more b i pushed at h le = (
+  subst Ascend (sym pushed) (ascend_last bs b h (omega arith)),
+  (let last : numbers_bounds more ≡ max (numbers_bounds bs) (b.var + 1) = ap numbers_bounds pushed ∙ numbers_last bs b in omega arith),
+)

@@ -4,6 +4,7 @@ use Rattle.fx_types.specs.Ground.{listed}
 use Rattle.fx_types.specs.Instance.{Solution}
 use Rattle.fx_types.specs.Term.{Label}
 use Rattle.fx_types.specs.Shape.{field_term}
+use Rattle.fx_unify.specs.declared.bindings.Bindings as bindings
 use Rattle.fx_unify.specs.declared.store.Root as roots
 use Rattle.fx_unify.specs.declared.store.Root.TheVariants as root
 use Rattle.fx_unify.specs.declared.store.Store as stores
@@ -21,6 +22,10 @@ HasFree e plain s =
 -- whatever these variables are to be, there is a solution
 abbrev pub IsOpen : Entries → Type 0
 IsOpen e = (plain : Solution) → (s : Solution) × Solved s e × HasFree e plain s
+
+-- the same of bindings
+abbrev pub LeavesOpen : bindings.Bindings → Type 0
+LeavesOpen b = IsOpen (entry b.store)
 
 -- the way from p along what is bound ends at q
 abbrev pub EndsAt : Entries → Part → Part → Type 0

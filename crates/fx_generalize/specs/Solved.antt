@@ -1,5 +1,5 @@
 -- Types that are kept with their conditions, and their instances.
-use Rattle.std.specs.Prelude.{◌≡◌, ◌↔◌, ℕ, ◌+◌, ◌≤◌, max, List, [], ◌∷◌}
+use Rattle.std.specs.Prelude.{◌≡◌, ◌↔◌, ℕ, ◌+◌, ◌≤◌, ◌<◌, max, List, [], ◌∷◌}
 use Rattle.fx_types.specs.declared.term.Ty as types
 use Rattle.fx_types.specs.Ground.{Ground}
 use Rattle.fx_types.specs.Instance.{Solution, ground}
@@ -32,6 +32,15 @@ numbers_terms (t ∷ ts) = max (numbers (term t)) (numbers_terms ts)
 abbrev pub numbers_bounds : List bounds.VarBound → ℕ
 numbers_bounds [] = 0
 numbers_bounds (b ∷ bs) = max (b.var + 1) (numbers_bounds bs)
+
+abbrev pub AreAbove : ℕ → List bounds.VarBound → Type 0
+AreAbove n [] = Unit {0}
+AreAbove n (b ∷ bs) = (n < b.var) × AreAbove n bs
+
+-- the bounds stand in the order of their variables, of which none has two
+abbrev pub Ascend : List bounds.VarBound → Type 0
+Ascend [] = Unit {0}
+Ascend (b ∷ bs) = AreAbove b.var bs × Ascend bs
 
 -- all variables are numbered below `vars`
 abbrev pub IsNumbered : declared.Solved → Type 0

@@ -6,7 +6,7 @@ ghost use Rattle.fx_types.specs.Instance.{Solution};
 ghost use Rattle.fx_types.specs.Kinds.{of_kind, IsAmong};
 ghost use Rattle.fx_unify.specs.Sorts.{allows};
 ghost use Rattle.fx_generalize.specs.Named.{IsBounded};
-ghost use Rattle.fx_generalize.specs.Solved.{KeepsKinds};
+ghost use Rattle.fx_generalize.specs.Solved.{Ascend, KeepsKinds, numbers_bounds};
 
 use crate::solved::VarBound;
 use fx_base::{List, Memory};
@@ -20,7 +20,9 @@ pub(crate) fn bounds_of(
     sorts: &[Sorts],
     types: &[u32],
 ) -> Result<List<VarBound>, Memory>
-    ensures { IfOk result (λ bs. (q : Solution) → KeepsKinds q bs ↔ ((k : ℕ) → k < length types.now → IsBounded sorts.now types.now q k)) }
+    ensures exact { IfOk result (λ bs. (q : Solution) → KeepsKinds q bs ↔ ((k : ℕ) → k < length types.now → IsBounded sorts.now types.now q k)) }
+    ensures ascend { IfOk result Ascend }
+    ensures below { IfOk result (λ bs. numbers_bounds bs ≤ length types.now) }
 {
     let mut bounds = List::empty(alloc);
     for (i, number) in types.iter().enumerate() {

@@ -1,6 +1,6 @@
 //! What is kept of a type without the equations that it was found by.
 
-ghost use Rattle.std.specs.Prelude.{◌≡◌, true, IfOk};
+ghost use Rattle.std.specs.Prelude.{◌≡◌, true, IfOk, OnOk};
 ghost use Rattle.fx_types.specs.Instance.{Solution, ground};
 ghost use Rattle.fx_types.specs.Shape.{term};
 ghost use Rattle.fx_types.specs.Size.{IsType};
@@ -8,7 +8,8 @@ ghost use Rattle.fx_unify.specs.Judge.{AreTypes};
 ghost use Rattle.fx_unify.specs.Solutions.{HasLeast};
 ghost use Rattle.fx_unify.specs.Store.{entry};
 ghost use Rattle.fx_generalize.specs.Named.{IsReading, CoversTypes, CanDrop};
-ghost use Rattle.fx_generalize.specs.Solved.{IsNumbered, IsSolvedOf, numbers_terms, numbers_bounds};
+ghost use Rattle.fx_generalize.specs.Open.{LeavesOpen};
+ghost use Rattle.fx_generalize.specs.Solved.{Ascend, IsNumbered, IsSolvedOf, numbers_terms, numbers_bounds};
 
 use crate::apart::are_apart;
 use crate::collect::{collect, collect_all};
@@ -49,11 +50,14 @@ pub struct Solved {
 impl Solved {
     /// The type without the equations of the bindings. Variables are numbered from 0, a variable has
     /// at most one bound, and terms that must be types are kept where they share a variable with the
-    /// type, or with another term that does.
+    /// type, or with another term that does. What is bound has a solution for any values of the free
+    /// variables.
     pub fn of(alloc: Global, bindings: &Bindings, ty: &Ty) -> Result<Solved, Memory>
         requires { HasLeast bindings.now }
         ensures instances { IfOk result (IsSolvedOf bindings.now (term ty.now)) }
         ensures numbered { IfOk result IsNumbered }
+        ensures ascend { IfOk result (λ v. Ascend v.bounds) }
+        ensures values { OnOk result (LeavesOpen bindings.now) }
     {
         see_ends(alloc, bindings)?;
         let left = bindings.left(alloc)?;
