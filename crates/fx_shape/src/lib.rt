@@ -1,8 +1,13 @@
 //! Operators on columns and rows of tables.
 #![tactic(auto)]
 
+mod giving;
 mod leaving;
 mod part;
+mod run;
+mod running;
 
+pub use giving::{fill, set};
 pub use leaving::drop_columns;
 pub use part::{limit, tail};
+pub use running::{cumulative_sum, difference, elapsed};
