@@ -5,6 +5,7 @@ pub mod Cut
 pub mod Keep
 pub mod Outcome
 pub mod Part
+pub mod Ranked
 pub mod Rename
 pub mod Run
 pub mod Running
