@@ -5,6 +5,7 @@ pub mod KeyTest
 pub mod Labels
 pub mod Own
 pub mod Place
+pub mod Recast
 pub mod Row
 pub mod Scalar
 pub mod Slots

@@ -20,7 +20,7 @@ pub enum Change {
 
 /// A head, and what changes make of it.
 #[derive(Debug, Drop)]
-pub(crate) struct Reshape {
+pub struct Reshape {
     pub from: Rc<Head>,
     pub to: Rc<Head>,
 }

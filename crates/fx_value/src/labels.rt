@@ -152,6 +152,19 @@ impl Labels {
         }
     }
 
+    /// All labels as one head. Where all are shared, it is that head.
+    pub fn whole(&self, alloc: Global) -> Result<Rc<Head>, Memory>
+        ensures { IfOk result (λ h. h.value ≡ self.now) }
+    {
+        match &self.own {
+            None => Ok(self.shared.clone()?),
+            Some(own) => {
+                let whole = self.shared.as_ref().under(alloc, own.as_ref())?;
+                Ok(Rc::new(alloc, whole)?)
+            }
+        }
+    }
+
     /// Whether both have the same labels.
     pub fn are_same(&self, other: &Labels) -> bool
         ensures { IsTrue result ↔ (map.keys self.now ≡ map.keys other.now) }

@@ -2,11 +2,13 @@ ghost use Rattle.std.specs.Prelude.{◌≡◌, ◌↔◌, IfOk, IfSome, OnOk, On
 ghost use Rattle.std.specs.Option.{option_map};
 ghost use Rattle.std.specs.FinMap as map;
 ghost use Rattle.fx_value.specs.Change.{all_changed, IsReshape};
+ghost use Rattle.fx_value.specs.Recast.{IsRecast};
 ghost use Rattle.fx_value.specs.Row.{row_of};
 
 use crate::change::{Change, Reshape};
 use crate::head::OwnPlace;
 use crate::labels::Labels;
+use crate::recast::{Recast, recast_head};
 use crate::scalar::Scalar;
 use crate::shape::Shape;
 use crate::source::Source;
@@ -136,7 +138,7 @@ impl Row {
     }
 
     /// Makes the changes; rows whose heads are the same as the last one's share what it became.
-    pub(crate) fn change(
+    pub fn change(
         &mut self,
         alloc: Global,
         changes: &[Change],
@@ -147,6 +149,23 @@ impl Row {
         ensures known { IfOk result (IsReshape changes.now) }
     {
         let known = self.labels.change(alloc, changes, last)?;
+        Ok(known)
+    }
+
+    /// Recasts the row; rows whose labels are the same as the last one's share what they became.
+    pub(crate) fn recast<R: Recast>(
+        &mut self,
+        alloc: Global,
+        recast: &R,
+        last: Option<Reshape>,
+    ) -> Result<Reshape, Memory>
+        requires { IfSome last (IsRecast (R.of_head recast.now)) }
+        ensures row { OnOk result (self.new ≡ R.of_row recast.now self.old) }
+        ensures known { IfOk result (IsRecast (R.of_head recast.now)) }
+    {
+        let whole = self.labels.whole(alloc)?;
+        let known = recast_head(alloc, recast, &whole, last)?;
+        put(&mut self.labels, Labels::of(&known.to)?);
         Ok(known)
     }
 
