@@ -27,7 +27,7 @@ use Rattle.fx_shape.specs.Keep.{table_left, columns_left, columns_dropped}
 
 -- labels that tie are the same
 
-tied : (a b : Label) → eq_by_cmp text_cmp a b ≡ same_text a b
+pub tied : (a b : Label) → eq_by_cmp text_cmp a b ≡ same_text a b
 tied a b = by (eq_by_cmp text_cmp a b) (same_text a b) refl refl
   where
     by : (c d : Bool) → c ≡ eq_by_cmp text_cmp a b → d ≡ same_text a b → c ≡ d

@@ -1,7 +1,12 @@
 pub mod Changed
 pub mod Columns
+pub mod Content
 pub mod Cut
 pub mod Keep
+pub mod Outcome
 pub mod Part
+pub mod Ranked
 pub mod Rename
+pub mod Run
+pub mod Running
 pub mod Sort

@@ -34,6 +34,9 @@ abbrev pub in_order : (Row → Row → Ordering) → List Row → List Row
 in_order cmp [] = []
 in_order cmp (row ∷ rows) = placed cmp row (in_order cmp rows)
 
+abbrev pub table_sorted : List Label → Bool → Table → Table
+table_sorted columns desc t = record { key = t.key; rows = in_order (directed_cmp desc columns) t.rows }
+
 -- `sort`: the rows of each table
 unfoldable pub rows_sorted : List Label → Bool → List Table → List Table
-rows_sorted columns desc tables = map (λ t. record { key = t.key; rows = in_order (directed_cmp desc columns) t.rows }) tables
+rows_sorted columns desc tables = map (table_sorted columns desc) tables

@@ -1,8 +1,15 @@
 //! Operators on columns and rows of tables.
 #![tactic(auto)]
 
+mod giving;
 mod leaving;
 mod part;
+mod run;
+mod running;
+mod sorting;
 
+pub use giving::{fill, set};
 pub use leaving::drop_columns;
 pub use part::{limit, tail};
+pub use running::{cumulative_sum, difference, elapsed};
+pub use sorting::sort_rows;
