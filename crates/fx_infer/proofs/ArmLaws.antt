@@ -50,33 +50,33 @@ pub only_found : (g : Ground) (b : Bindings) (u : Term) → IsType g → ((s : S
 only_found g b u type is = subst (Infers (λ s t. IsType t × (t ≡ g)) b b) (λ i s. sym (is s) i) (same (λ s t. IsType t × (t ≡ g)) b g (λ s. (type, refl)) (λ s t h. sym h.1))
 
 -- one part, and a rule on its type
-module _ (T : Solution → Ground → Type 0) (U : Ground → Ground → Type 0) (C : Solution → Ground → Type 0) (old : Bindings) (is : (s : Solution) (t : Ground) → C s t ↔ ((u : Ground) × T s u × U u t)) where
-  pub one_part : (mid new : Bindings) (f g : Solution → Ground) → Infers T old mid f → Infers (λ s t. U (f s) t) mid new g → Infers C old new g
+module _ {P R : Type 0} (T : Solution → P → Type 0) (U : P → R → Type 0) (C : Solution → R → Type 0) (old : Bindings) (is : (s : Solution) (t : R) → C s t ↔ ((u : P) × T s u × U u t)) where
+  pub one_part : (mid new : Bindings) (f : Solution → P) (g : Solution → R) → Infers T old mid f → Infers (λ s t. U (f s) t) mid new g → Infers C old new g
   one_part mid new f g one two =
       seen_as (λ s x. T s x.0 × U x.0 x.1) C (λ s x. x.1) old new (λ s. (f s, g s)) (both T (λ u s t. U u t) old mid new f g one two (λ r s q agree p h. h))
-      (λ s q agree x. refl) (λ s x h. (is s x.1).1 (x.0, h.0, h.1)) (λ s t h. (let k : (u : Ground) × T s u × U u t = (is s t).0 h in ((k.0, t), (k.1, k.2), refl)))
+      (λ s q agree x. refl) (λ s x h. (is s x.1).1 (x.0, h.0, h.1)) (λ s t h. (let k : (u : P) × T s u × U u t = (is s t).0 h in ((k.0, t), (k.1, k.2), refl)))
 
   pub none_part : HasNone T old → HasNone C old
-  none_part none = λ s h within t c. (let k : (u : Ground) × T s u × U u t = (is s t).0 c in none s h within k.0 k.1)
+  none_part none = λ s h within t c. (let k : (u : P) × T s u × U u t = (is s t).0 c in none s h within k.0 k.1)
 
 -- two parts, and a rule on their types
-module _ (T V : Solution → Ground → Type 0) (U : Ground → Ground → Ground → Type 0) (C : Solution → Ground → Type 0) (old : Bindings) (reads : Reads (next_of old) V)
-    (is : (s : Solution) (t : Ground) → C s t ↔ ((u : Ground) × (w : Ground) × T s u × V s w × U u w t)) where
-  pub two_parts : (one two new : Bindings) (f g r : Solution → Ground) → Infers T old one f → Infers V one two g → Infers (λ s t. U (f s) (g s) t) two new r → Infers C old new r
+module _ {P Q R : Type 0} (T : Solution → P → Type 0) (V : Solution → Q → Type 0) (U : P → Q → R → Type 0) (C : Solution → R → Type 0) (old : Bindings) (reads : Reads (next_of old) V)
+    (is : (s : Solution) (t : R) → C s t ↔ ((u : P) × (w : Q) × T s u × V s w × U u w t)) where
+  pub two_parts : (one two new : Bindings) (f : Solution → P) (g : Solution → Q) (r : Solution → R) → Infers T old one f → Infers V one two g → Infers (λ s t. U (f s) (g s) t) two new r → Infers C old new r
   two_parts one two new f g r first second rule =
       seen_as (λ s x. (T s x.0.0 × V s x.0.1) × U x.0.0 x.0.1 x.1) C (λ s x. x.1) old new (λ s. ((f s, g s), r s))
       (both (λ s x. T s x.0 × V s x.1) (λ x s t. U x.0 x.1 t) old two new (λ s. (f s, g s)) r
       (both T (λ u s w. V s w) old one two f g first second (λ u. reads)) rule (λ x s q agree p h. h))
       (λ s q agree x. refl) (λ s x h. (is s x.1).1 (x.0.0, x.0.1, h.0.0, h.0.1, h.1))
-      (λ s t h. (let k : (u : Ground) × (w : Ground) × T s u × V s w × U u w t = (is s t).0 h in (((k.0, k.1), t), ((k.2, k.3), k.4), refl)))
+      (λ s t h. (let k : (u : P) × (w : Q) × T s u × V s w × U u w t = (is s t).0 h in (((k.0, k.1), t), ((k.2, k.3), k.4), refl)))
 
   pub none_of_first : HasNone T old → HasNone C old
-  none_of_first none = λ s h within t c. (let k : (u : Ground) × (w : Ground) × T s u × V s w × U u w t = (is s t).0 c in none s h within k.0 k.2)
+  none_of_first none = λ s h within t c. (let k : (u : P) × (w : Q) × T s u × V s w × U u w t = (is s t).0 c in none s h within k.0 k.2)
 
-  pub none_of_second : (one : Bindings) (f : Solution → Ground) → Infers T old one f → HasNone V one → HasNone C old
+  pub none_of_second : (one : Bindings) (f : Solution → P) → Infers T old one f → HasNone V one → HasNone C old
   none_of_second one f first none = λ s h within t c.
-      (let k : (u : Ground) × (w : Ground) × T s u × V s w × U u w t = (is s t).0 c in
-      none_second T (λ u q w. V q w) old one one f (λ q. f q) first none (λ u. reads) s h within (k.0, k.1) (k.2, k.3))
+      (let k : (u : P) × (w : Q) × T s u × V s w × U u w t = (is s t).0 c in
+      none_second T (λ u q w. V q w) old one one f (λ q. k.1) first none (λ u. reads) s h within (k.0, k.1) (k.2, k.3))
 
 -- operators before an operand
 

@@ -11,12 +11,16 @@ pub mod FreshLaws
 pub mod InfersLaws
 pub mod KeptLaws
 pub mod ListLaws
+pub mod MemberArms
 pub mod MoreArms
 pub mod NameArms
 pub mod NativeLaws
+pub mod RecordArms
+pub mod RowLaws
 pub mod RuleLaws
 pub mod ScopeLaws
 pub mod ScriptLaws
+pub mod TextArms
 pub mod TypingLaws
 pub mod UseLaws
 pub mod UsingLaws

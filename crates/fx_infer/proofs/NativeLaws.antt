@@ -17,7 +17,7 @@ use Rattle.fx_unify.specs.declared.bindings.Bindings.{Bindings}
 use Rattle.fx_unify.specs.Solutions.{Solves, next_of}
 use Rattle.fx_infer.specs.Infers.{Infers, HasNone}
 use Rattle.fx_infer.specs.Ask.{type_is}
-use Rattle.fx_infer.specs.Native.{IsValueOf, native, natives}
+use Rattle.fx_infer.specs.Native.{IsValueOf, native}
 use Rattle.fx_infer.specs.Uses.{IsUse}
 use Rattle.fx_infer.proofs.InfersLaws.{seen_as}
 
@@ -62,5 +62,5 @@ found_builtin None id h = absurd (no_id id h)
     no_id id e = cc
 found_builtin (Some b) id h = let same : id_of b ≡ id = cc in (b, refl, ap (λ i. i.number) same)
 
-pub natives_are : (x : Label) (p : Label) (b : Builtin) → p ≡ codes "" → builtin_of p x ≡ Some b → ◌≡◌ {A = Solution → Ground → Type 0} (λ s t. IsType t × (IsType t × IsValueOf b t)) (λ s t. IsType t × natives x (type_is t))
-natives_are x p b empty is = λ i s t. IsType t × native (sym (ap (λ q. builtin_of q x) (sym empty) ∙ is) i) (type_is t)
+pub native_is : (path x : Label) (b : Builtin) → builtin_of path x ≡ Some b → ◌≡◌ {A = Solution → Ground → Type 0} (λ s t. IsType t × (IsType t × IsValueOf b t)) (λ s t. IsType t × native (builtin_of path x) (type_is t))
+native_is path x b is = λ i s t. IsType t × native (sym is i) (type_is t)

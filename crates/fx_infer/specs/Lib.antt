@@ -5,12 +5,15 @@ pub mod Environment
 pub mod Finds
 pub mod Infers
 pub mod Lists
+pub mod Members
 pub mod Names
 pub mod Native
 pub mod Operators
 pub mod Parameters
+pub mod Records
 pub mod Rules
 pub mod Script
+pub mod Texts
 pub mod Typing
 pub mod Uses
 pub mod Words

@@ -2,27 +2,33 @@
 //! in the scope of the names before it; each step down takes one from `room`.
 
 ghost use Rattle.std.specs.Prelude.{IfOk, map};
-ghost use Rattle.fx_ast.specs.Shape.{tree_of, trees_of, link, links_of};
-ghost use Rattle.fx_ast.specs.Tree.{name, array, chain, prefix, index, if_then};
+ghost use Rattle.fx_ast.specs.Shape.{tree_of, trees_of, link, links_of, part, parts_of, prop, props_of};
+ghost use Rattle.fx_ast.specs.Tree.{name, text, array, rec, member, chain, prefix, index, if_then};
 ghost use Rattle.fx_types.specs.Instance.{ground};
 ghost use Rattle.fx_types.specs.Shape.{term};
 ghost use Rattle.fx_unify.specs.Solutions.{next_of};
 ghost use Rattle.fx_infer.specs.Infers.{IsBelow};
 ghost use Rattle.fx_infer.specs.Finds.{Finds, FindsThat};
 ghost use Rattle.fx_infer.specs.Names.{NamesBelow, TypeOf, ShapeOf, LinkOf};
+ghost use Rattle.fx_infer.specs.Records.{BaseOf, MakesOf, FindsRow, FindsFields};
+ghost use Rattle.fx_infer.specs.Texts.{PartOf};
 
-use crate::ask::{Inferred, any_array, equal};
-use crate::literals::{int_type, pattern_type, span_type, time_type};
-use crate::natives::{native_value, variable};
+use crate::ask::{Inferred, among, any_array, equal};
+use crate::labels::labels_differ;
+use crate::literals::{int_type, pattern_type, span_type, text_type, time_type};
+use crate::members::package;
+use crate::natives::{native_of, native_value, variable};
 use crate::operators::{infixed, prefixed};
-use crate::rules::element_of;
+use crate::records::{Based, Fielded, no_row, record_type, row_of};
+use crate::rules::{element_of, field_of};
 use crate::scope::{Bound, Name, newest};
 use crate::stop::Stop;
-use crate::terms::array_of;
-use fx_ast::{Expr, Link, Node, Prefix};
-use fx_base::Text;
+use crate::terms::{array_of, entry};
+use fx_ast::{Expr, Link, Node, Part, Prefix, Prop};
+use fx_base::{List, Text};
 use fx_types::Ty;
 use fx_unify::Bindings;
+use fx_value::Kind;
 use std::alloc::Global;
 
 /// A type of the expression, None where it has none.
@@ -45,16 +51,21 @@ pub(crate) fn infer<'a>(
         Node::Int(value) => Ok(Some(int_type(bindings, *value))),
         Node::Time(value) => Ok(Some(time_type(bindings, *value))),
         Node::Span(value) => Ok(Some(span_type(bindings, value.months, value.nanos))),
+        Node::Text(parts) => infer_text(alloc, names, bindings, parts.as_slice(), room),
         Node::Pattern(_) => Ok(Some(pattern_type(bindings))),
         Node::Name(label) => infer_name(alloc, names, bindings, label, room),
         Node::Paren(inner) => infer(alloc, names, bindings, inner, room),
         Node::Prefix { sign, of } => infer_prefix(alloc, names, bindings, *sign, of, room),
+        Node::Member { of, label } => infer_member(alloc, names, bindings, of, label, room),
         Node::Index { of, at } => infer_index(alloc, names, bindings, of, at, room),
         Node::Chain { first, rest } => {
             infer_chain(alloc, names, bindings, first, rest.as_slice(), room)
         }
         Node::If { test, yes, no } => infer_if(alloc, names, bindings, test, yes, no, room),
         Node::Array(items) => infer_array(alloc, names, bindings, items.as_slice(), room),
+        Node::Rec { base, props } => {
+            infer_record(alloc, names, bindings, base, props.as_slice(), room)
+        }
         _ => Err(Stop::NotYet),
     }
 }
@@ -98,6 +109,28 @@ fn infer_prefix<'a>(
 {
     match infer(alloc, names, bindings, of, room)? {
         Some(found) => Ok(Some(prefixed(alloc, found.bindings, sign, &found.ty)?)),
+        None => Ok(None),
+    }
+}
+
+/// A type of the field of a record, or of the built-in of a package.
+#[cycle(infer)]
+fn infer_member<'a>(
+    alloc: Global,
+    names: &[Name<'a>],
+    bindings: Bindings,
+    of: &'a Expr,
+    label: &Text,
+    room: u32,
+) -> Result<Option<Inferred>, Stop>
+    requires { NamesBelow (next_of bindings) names.now }
+    ensures { IfOk result (Finds (ShapeOf names.now (member (tree_of of.now) label.now)) bindings) }
+{
+    if let Some(path) = package(names, of) {
+        return Ok(native_of(alloc, bindings, path, label)?);
+    }
+    match infer(alloc, names, bindings, of, room)? {
+        Some(found) => Ok(Some(field_of(alloc, found.bindings, &found.ty, label)?)),
         None => Ok(None),
     }
 }
@@ -201,6 +234,135 @@ fn infer_array<'a>(
         bindings: asked,
         ty,
     }))
+}
+
+/// A type of a record of the properties over the row of the name before `with`.
+#[cycle(infer)]
+fn infer_record<'a>(
+    alloc: Global,
+    names: &[Name<'a>],
+    bindings: Bindings,
+    base: &Option<Text>,
+    props: &'a [Prop],
+    room: u32,
+) -> Result<Option<Inferred>, Stop>
+    requires { NamesBelow (next_of bindings) names.now }
+    ensures { IfOk result (Finds (ShapeOf names.now (rec base.now (props_of (map prop props.now)))) bindings) }
+{
+    if !labels_differ(props) {
+        return Ok(None);
+    }
+    let based = match infer_base(alloc, names, bindings, base, room)? {
+        Some(based) => based,
+        None => return Ok(None),
+    };
+    match infer_fields(alloc, names, based.bindings, props, room)? {
+        Some(made) => {
+            let rest = based.rest;
+            Ok(Some(record_type(alloc, made.bindings, made.fields, rest)?))
+        }
+        None => Ok(None),
+    }
+}
+
+/// The row behind the properties of a record.
+#[cycle(infer)]
+fn infer_base<'a>(
+    alloc: Global,
+    names: &[Name<'a>],
+    bindings: Bindings,
+    base: &Option<Text>,
+    room: u32,
+) -> Result<Option<Based>, Stop>
+    requires { NamesBelow (next_of bindings) names.now }
+    ensures { IfOk result (FindsRow (BaseOf names.now base.now) bindings) }
+{
+    let label = match base {
+        Some(label) => label,
+        None => return Ok(Some(no_row(bindings))),
+    };
+    match infer_name(alloc, names, bindings, label, room)? {
+        Some(found) => Ok(Some(row_of(alloc, found.bindings, &found.ty)?)),
+        None => Ok(None),
+    }
+}
+
+/// The fields that the properties make.
+#[cycle(infer)]
+fn infer_fields<'a>(
+    alloc: Global,
+    names: &[Name<'a>],
+    bindings: Bindings,
+    props: &'a [Prop],
+    room: u32,
+) -> Result<Option<Fielded>, Stop>
+    requires { NamesBelow (next_of bindings) names.now }
+    ensures { IfOk result (FindsFields (MakesOf names.now props.now) bindings) }
+{
+    let mut asked = bindings;
+    let mut fields = List::empty(alloc);
+    for prop in props {
+        let found = match infer(alloc, names, asked, &prop.value, room)? {
+            Some(found) => found,
+            None => return Ok(None),
+        };
+        asked = found.bindings;
+        fields.push(entry(&prop.label, found.ty)?)?;
+    }
+    Ok(Some(Fielded {
+        bindings: asked,
+        fields,
+    }))
+}
+
+/// A type of a text of the parts.
+#[cycle(infer)]
+fn infer_text<'a>(
+    alloc: Global,
+    names: &[Name<'a>],
+    bindings: Bindings,
+    parts: &'a [Part],
+    room: u32,
+) -> Result<Option<Inferred>, Stop>
+    requires { NamesBelow (next_of bindings) names.now }
+    ensures { IfOk result (Finds (ShapeOf names.now (text (parts_of (map part parts.now)))) bindings) }
+{
+    let mut asked = bindings;
+    for next in parts {
+        asked = match infer_part(alloc, names, asked, next, room)? {
+            Some(bindings) => bindings,
+            None => return Ok(None),
+        };
+    }
+    Ok(Some(text_type(asked)))
+}
+
+/// Bindings under which what is put into a text is of a column kind.
+#[cycle(infer)]
+fn infer_part<'a>(
+    alloc: Global,
+    names: &[Name<'a>],
+    bindings: Bindings,
+    next: &'a Part,
+    room: u32,
+) -> Result<Option<Bindings>, Stop>
+    requires { NamesBelow (next_of bindings) names.now }
+    ensures { IfOk result (FindsThat (PartOf names.now next.now) bindings) }
+{
+    let hole = match next {
+        Part::Piece(_) => return Ok(Some(bindings)),
+        Part::Hole(hole) => hole,
+    };
+    match infer(alloc, names, bindings, hole, room)? {
+        Some(found) => Ok(Some(among(
+            alloc,
+            found.bindings,
+            &found.ty,
+            &[Kind::Bool, Kind::Int, Kind::Text, Kind::Time],
+            false,
+        )?)),
+        None => Ok(None),
+    }
 }
 
 /// A type of the operators one after another.

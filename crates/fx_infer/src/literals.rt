@@ -2,7 +2,7 @@
 
 ghost use Rattle.std.specs.Prelude.{◌≡◌, FitsSigned};
 ghost use Rattle.std.specs.Int.{w64};
-ghost use Rattle.fx_types.specs.Ground.{g_int, g_time, g_span, g_pattern};
+ghost use Rattle.fx_types.specs.Ground.{g_int, g_time, g_span, g_text, g_pattern};
 ghost use Rattle.fx_types.specs.Instance.{Solution, ground};
 ghost use Rattle.fx_types.specs.Shape.{term};
 ghost use Rattle.fx_types.specs.Size.{IsType};
@@ -39,6 +39,16 @@ pub(crate) fn span_type(bindings: Bindings, months: i64, nanos: i64) -> Inferred
     Inferred {
         bindings,
         ty: Ty::Span,
+    }
+}
+
+/// The type of a text.
+pub(crate) fn text_type(bindings: Bindings) -> Inferred
+    ensures { Infers (λ s t. IsType t × (t ≡ g_text)) bindings result.bindings (λ s. ground s (term result.ty)) }
+{
+    Inferred {
+        bindings,
+        ty: Ty::Text,
     }
 }
 

@@ -2,14 +2,14 @@
 
 ghost use Rattle.std.specs.Prelude.{◌≡◌, Some, IfOk};
 ghost use Rattle.fx_schemes.specs.declared.list.Builtin.{Builtin};
-ghost use Rattle.fx_schemes.specs.Names.{IsId};
+ghost use Rattle.fx_schemes.specs.Names.{IsId, builtin_of};
 ghost use Rattle.fx_types.specs.Instance.{Solution, ground};
 ghost use Rattle.fx_types.specs.Shape.{term};
 ghost use Rattle.fx_types.specs.Size.{IsType};
 ghost use Rattle.fx_infer.specs.Ask.{type_is};
 ghost use Rattle.fx_infer.specs.Finds.{Finds};
 ghost use Rattle.fx_infer.specs.Infers.{Infers};
-ghost use Rattle.fx_infer.specs.Native.{IsValueOf, natives};
+ghost use Rattle.fx_infer.specs.Native.{IsValueOf, native, natives};
 
 use crate::ask::Inferred;
 use crate::uses::fresh_line;
@@ -36,8 +36,20 @@ pub(crate) fn native_value(
 ) -> Result<Option<Inferred>, Memory>
     ensures { IfOk result (Finds (λ s t. IsType t × natives label.now (type_is t)) bindings) }
 {
-    let package = Text::of(alloc, "")?;
-    match builtin(&package, label) {
+    let universe = Text::of(alloc, "")?;
+    native_of(alloc, bindings, &universe, label)
+}
+
+/// A type of the built-in of this name in the package.
+pub(crate) fn native_of(
+    alloc: Global,
+    bindings: Bindings,
+    path: &Text,
+    label: &Text,
+) -> Result<Option<Inferred>, Memory>
+    ensures { IfOk result (Finds (λ s t. IsType t × native (builtin_of path.now label.now) (type_is t)) bindings) }
+{
+    match builtin(path, label) {
         Some(id) => value_of(alloc, bindings, id),
         None => Ok(None),
     }

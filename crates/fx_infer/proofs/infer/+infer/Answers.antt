@@ -1,17 +1,27 @@
-use Rattle.std.proofs.Common.{FitsSigned, IfOk, ap, arith, map, rules, subst, sym, take, ◌∙◌, ◌≡◌}
+use Rattle.std.proofs.Common.{FitsSigned, IfOk, None, Some, ap, arith, map, rules, subst, sym, take, ◌∙◌, ◌≡◌}
+use Rattle.std.specs.Option.{option_copied}
 use Rattle.std.specs.Int.{w64}
 use Rattle.std.proofs.lemmas.Int.{to_z-of_z}
-use Rattle.fx_ast.specs.Shape.{link, links_of, shape_of, tree_of, trees_of}
-use Rattle.fx_ast.specs.Tree.{array, chain, if_then, index, int, name, paren, pattern, prefix, span, time}
-use Rattle.fx_ast.proofs.ShapeLaws.{shape_array, shape_chain, shape_if, shape_index, shape_int, shape_name, shape_paren, shape_pattern, shape_prefix, shape_span, shape_time}
-use Rattle.fx_types.specs.Instance.{ground}
-use Rattle.fx_types.specs.Shape.{term}
+use Rattle.fx_ast.specs.Shape.{link, links_of, part, parts_of, prop, props_of, shape_of, tree_of, trees_of}
+use Rattle.fx_ast.specs.Tree.{array, chain, if_then, index, int, member, name, paren, pattern, prefix, rec, span, text, time}
+use Rattle.fx_ast.proofs.ShapeLaws.{part_hole, part_piece, shape_array, shape_chain, shape_if, shape_index, shape_int, shape_member, shape_name, shape_paren, shape_pattern, shape_prefix, shape_rec, shape_span, shape_text, shape_time}
+use Rattle.fx_schemes.specs.Names.{builtin_of}
+use Rattle.fx_types.specs.Ground.{g_rec}
+use Rattle.fx_types.specs.Instance.{ground, ground_fields, ground_tail}
+use Rattle.fx_types.specs.Shape.{term, entry_term, fields_of, rest_term}
 use Rattle.fx_infer.specs.Finds.{Finds}
 use Rattle.fx_infer.specs.Infers.{Infers}
-use Rattle.fx_infer.specs.Names.{TypeOf, ShapeOf}
+use Rattle.fx_infer.specs.Environment.{scope}
+use Rattle.fx_infer.specs.Names.{TypeOf, ShapeOf, env_under}
 use Rattle.fx_infer.specs.Operators.{Prefixed}
-use Rattle.fx_infer.specs.Rules.{HasElement}
-use Rattle.fx_infer.proofs.ArmLaws.{at_node, type_reads, one_part, two_parts, prefix_is, index_is, names_later}
+use Rattle.fx_infer.specs.Records.{BaseOf, MakesOf, FindsRow, FindsFields}
+use Rattle.fx_infer.specs.Rules.{HasElement, HasField}
+use Rattle.fx_infer.specs.Texts.{PartOf}
+use Rattle.fx_infer.proofs.ArmLaws.{at_node, type_reads, one_part, none_part, two_parts, none_of_first, none_of_second, prefix_is, index_is, names_later}
+use Rattle.fx_infer.proofs.MemberArms.{Told, native_member, field_member}
+use Rattle.fx_infer.proofs.RecordArms.{record_is, no_record, base_is, makes_reads, fields_start, fields_grow, fields_all, no_field}
+use Rattle.fx_infer.proofs.TextArms.{hole_found, no_hole, piece_found, text_grow, no_part, text_found}
+use Rattle.fx_infer.proofs.TypingLaws.{typed_type}
 use Rattle.fx_types.specs.declared.term.Ty.TheVariants as ty
 use Rattle.fx_types.proofs.ShapeLaws.{term_bool}
 use Rattle.fx_infer.specs.Finds.{FindsThat}
@@ -20,7 +30,7 @@ use Rattle.fx_infer.proofs.ScopeLaws.{names_below}
 use Rattle.fx_types.specs.Size.{IsType}
 use Rattle.fx_infer.specs.Ask.{type_is}
 use Rattle.fx_infer.specs.Names.{IsNewest}
-use Rattle.fx_infer.specs.Native.{natives}
+use Rattle.fx_infer.specs.Native.{native, natives}
 use Rattle.fx_infer.proofs.InfersLaws.{instead}
 use Rattle.fx_infer.proofs.NameArms.{finds_same, finds_instead, found_place, free_is, param_is, value_is, no_package, prefix_below}
 use Rattle.fx_infer.specs.Names.{LinkOf}
@@ -64,6 +74,131 @@ pub infer-returns-in-Index : goal.infer-returns-in-Index
 infer-returns-in-Index t c =
     subst (λ T. IfOk c.infer_index.result (Finds T c.args.bindings))
     (at_node c.args.names.now c.args.expr.now c.get.result.now (index (tree_of c.in-Index.of) (tree_of c.in-Index.at)) c.get.ensures (ap shape_of c.in-Index.is ∙ shape_index c.in-Index.of c.in-Index.at)) c.infer_index.ensures
+
+-- members
+
+pub infer-returns-in-Member : goal.infer-returns-in-Member
+infer-returns-in-Member t c =
+    subst (λ T. IfOk c.infer_member.result (Finds T c.args.bindings))
+    (at_node c.args.names.now c.args.expr.now c.get.result.now (member (tree_of c.in-Member.of) c.in-Member.label) c.get.ensures (ap shape_of c.in-Member.is ∙ shape_member c.in-Member.of c.in-Member.label)) c.infer_member.ensures
+
+pub infer_member-returns-in-Some : goal.infer_member-returns-in-Some
+infer_member-returns-in-Some t c =
+    finds_same (λ s u. IsType u × native (builtin_of c.in-Some.path.now c.args.label.now) (type_is u)) (ShapeOf c.args.names.now (member (tree_of c.args.of.now) c.args.label.now)) c.args.bindings c.in_ok-native_of.field-0
+    (native_member c.args.names.now c.args.of.now c.args.label.now c.in-Some.path.now (subst (λ o. Told c.args.names.now c.args.of.now (option_copied o)) c.in-Some.is c.package.ensures)) c.in_ok-native_of.ensures
+
+pub infer_member-field_of-requires-clause-typed : goal.infer_member-field_of-requires-clause-typed
+infer_member-field_of-requires-clause-typed t c s h =
+    let one : Infers (TypeOf c.args.names.now c.args.of.now) c.args.bindings c.in-Some-2.found.bindings (λ q. ground q (term c.in-Some-2.found.ty)) = subst (Finds (TypeOf c.args.names.now c.args.of.now) c.args.bindings) c.in-Some-2.is c.in_ok-found.ensures in
+    typed_type (tree_of c.args.of.now) (scope (env_under s c.args.names.now)) (ground s (term c.in-Some-2.found.ty)) (one.sound s h)
+
+pub infer_member-returns-in_ok-field_of-in-Some-2 : goal.infer_member-returns-in_ok-field_of-in-Some-2
+infer_member-returns-in_ok-field_of-in-Some-2 t c =
+    one_part (TypeOf c.args.names.now c.args.of.now) (HasField c.args.label.now) (ShapeOf c.args.names.now (member (tree_of c.args.of.now) c.args.label.now)) c.args.bindings
+    (field_member c.args.names.now c.args.of.now c.args.label.now (subst (λ o. Told c.args.names.now c.args.of.now (option_copied o)) c.in_default.is c.package.ensures))
+    c.in-Some-2.found.bindings c.in_ok-field_of-in-Some-2.field-0.bindings (λ s. ground s (term c.in-Some-2.found.ty)) (λ s. ground s (term c.in_ok-field_of-in-Some-2.field-0.ty))
+    (subst (Finds (TypeOf c.args.names.now c.args.of.now) c.args.bindings) c.in-Some-2.is c.in_ok-found.ensures) c.in_ok-field_of-in-Some-2.ensures
+
+pub infer_member-returns-in-None : goal.infer_member-returns-in-None
+infer_member-returns-in-None t c =
+    none_part (TypeOf c.args.names.now c.args.of.now) (HasField c.args.label.now) (ShapeOf c.args.names.now (member (tree_of c.args.of.now) c.args.label.now)) c.args.bindings
+    (field_member c.args.names.now c.args.of.now c.args.label.now (subst (λ o. Told c.args.names.now c.args.of.now (option_copied o)) c.in_default.is c.package.ensures))
+    (subst (Finds (TypeOf c.args.names.now c.args.of.now) c.args.bindings) c.in-None.is c.in_ok-found.ensures)
+
+-- records
+
+pub infer-returns-in-Rec : goal.infer-returns-in-Rec
+infer-returns-in-Rec t c =
+    subst (λ T. IfOk c.infer_record.result (Finds T c.args.bindings))
+    (ap (λ ps. ShapeOf c.args.names.now (rec c.in-Rec.base (props_of (map prop ps)))) c.as_slice-in-Rec.ensures
+    ∙ at_node c.args.names.now c.args.expr.now c.get.result.now (rec c.in-Rec.base (props_of (map prop c.in-Rec.props))) c.get.ensures (ap shape_of c.in-Rec.is ∙ shape_rec c.in-Rec.base c.in-Rec.props)) c.infer_record.ensures
+
+pub infer_record-returns-then-not-labels_differ : goal.infer_record-returns-then-not-labels_differ
+infer_record-returns-then-not-labels_differ t c = no_record c.args.names.now c.args.base.now c.args.props.now c.args.bindings (sym c.labels_differ.ensures ∙ c.if-not-labels_differ.true)
+
+pub infer_record-returns-in-None : goal.infer_record-returns-in-None
+infer_record-returns-in-None t c =
+    none_of_first (BaseOf c.args.names.now c.args.base.now) (MakesOf c.args.names.now c.args.props.now) (λ p F u. IsType u × (u ≡ g_rec (F p))) (ShapeOf c.args.names.now (rec c.args.base.now (props_of (map prop c.args.props.now)))) c.args.bindings
+    (makes_reads _ c.args.names.now c.args.props.now c.requires) (record_is c.args.names.now c.args.base.now c.args.props.now (sym c.labels_differ.ensures ∙ c.if-not-labels_differ.false))
+    (subst (FindsRow (BaseOf c.args.names.now c.args.base.now) c.args.bindings) c.in-None.is c.in_ok-based.ensures)
+
+pub infer_record-returns-in_ok-record_type-in-Some-2 : goal.infer_record-returns-in_ok-record_type-in-Some-2
+infer_record-returns-in_ok-record_type-in-Some-2 t c =
+    two_parts (BaseOf c.args.names.now c.args.base.now) (MakesOf c.args.names.now c.args.props.now) (λ p F u. IsType u × (u ≡ g_rec (F p))) (ShapeOf c.args.names.now (rec c.args.base.now (props_of (map prop c.args.props.now)))) c.args.bindings
+    (makes_reads _ c.args.names.now c.args.props.now c.requires) (record_is c.args.names.now c.args.base.now c.args.props.now (sym c.labels_differ.ensures ∙ c.if-not-labels_differ.false))
+    c.in-Some.based.bindings c.in-Some-2.made.bindings c.in_ok-record_type-in-Some-2.field-0.bindings (λ s. ground_tail s (rest_term c.in-Some.based.rest)) (λ s. ground_fields s (fields_of (map entry_term c.in-Some-2.made.fields))) (λ s. ground s (term c.in_ok-record_type-in-Some-2.field-0.ty))
+    (subst (FindsRow (BaseOf c.args.names.now c.args.base.now) c.args.bindings) c.in-Some.is c.in_ok-based.ensures)
+    (subst (FindsFields (MakesOf c.args.names.now c.args.props.now) c.in-Some.based.bindings) c.in-Some-2.is c.in_ok-made.ensures) c.in_ok-record_type-in-Some-2.ensures
+
+pub infer_record-returns-in-None-2 : goal.infer_record-returns-in-None-2
+infer_record-returns-in-None-2 t c =
+    none_of_second (BaseOf c.args.names.now c.args.base.now) (MakesOf c.args.names.now c.args.props.now) (λ p F u. IsType u × (u ≡ g_rec (F p))) (ShapeOf c.args.names.now (rec c.args.base.now (props_of (map prop c.args.props.now)))) c.args.bindings
+    (makes_reads _ c.args.names.now c.args.props.now c.requires) (record_is c.args.names.now c.args.base.now c.args.props.now (sym c.labels_differ.ensures ∙ c.if-not-labels_differ.false))
+    c.in-Some.based.bindings (λ s. ground_tail s (rest_term c.in-Some.based.rest))
+    (subst (FindsRow (BaseOf c.args.names.now c.args.base.now) c.args.bindings) c.in-Some.is c.in_ok-based.ensures)
+    (subst (FindsFields (MakesOf c.args.names.now c.args.props.now) c.in-Some.based.bindings) c.in-None-2.is c.in_ok-made.ensures)
+
+pub infer_base-returns-in-None : goal.infer_base-returns-in-None
+infer_base-returns-in-None t c =
+    subst (λ o. Infers (BaseOf c.args.names.now o) c.args.bindings c.no_row.result.bindings (λ s. ground_tail s (rest_term c.no_row.result.rest))) (sym c.in-None.is) c.no_row.ensures
+
+pub infer_base-returns-in_ok-row_of-in-Some-2 : goal.infer_base-returns-in_ok-row_of-in-Some-2
+infer_base-returns-in_ok-row_of-in-Some-2 t c =
+    subst (λ o. Infers (BaseOf c.args.names.now o) c.args.bindings c.in_ok-row_of-in-Some-2.field-0.bindings (λ s. ground_tail s (rest_term c.in_ok-row_of-in-Some-2.field-0.rest))) (sym c.in-Some.is)
+    (one_part (ShapeOf c.args.names.now (name c.in-Some.label)) (λ u r. u ≡ g_rec r) (BaseOf c.args.names.now (Some c.in-Some.label)) c.args.bindings (base_is c.args.names.now c.in-Some.label)
+    c.in-Some-2.found.bindings c.in_ok-row_of-in-Some-2.field-0.bindings (λ s. ground s (term c.in-Some-2.found.ty)) (λ s. ground_tail s (rest_term c.in_ok-row_of-in-Some-2.field-0.rest))
+    (subst (Finds (ShapeOf c.args.names.now (name c.in-Some.label)) c.args.bindings) c.in-Some-2.is c.in_ok-found.ensures) c.in_ok-row_of-in-Some-2.ensures)
+
+pub infer_fields-loop-prop-init : goal.infer_fields-loop-prop-init
+infer_fields-loop-prop-init t c = fields_start c.args.names.now c.args.props.now c.args.bindings c.requires _ c.empty-fields.ensures
+
+pub infer_fields-returns-in-None : goal.infer_fields-returns-in-None
+infer_fields-returns-in-None t c =
+    no_field c.args.names.now c.args.props.now c.args.bindings c.requires c.loop-prop.asked c.loop-prop.fields c.loop-prop.prop-index c.prop-item.result c.loop-prop-test.true c.prop-item.is c.loop-prop.invariant
+    (subst (Finds (TypeOf c.args.names.now c.prop-item.result.value) c.loop-prop.asked) c.in-None.is c.in_ok-found.ensures)
+
+pub infer_fields-loop-prop-preserved : goal.infer_fields-loop-prop-preserved
+infer_fields-loop-prop-preserved t c =
+    fields_grow c.args.names.now c.args.props.now c.args.bindings c.requires c.loop-prop.asked c.loop-prop.fields c.loop-prop.prop-index c.prop-item.result c.loop-prop-test.true c.prop-item.is c.loop-prop.invariant
+    c.in-Some.found.bindings (term c.in-Some.found.ty) c.in_ok-entry.field-0 _ (subst (Finds (TypeOf c.args.names.now c.prop-item.result.value) c.loop-prop.asked) c.in-Some.is c.in_ok-found.ensures) c.in_ok-entry.ensures c.in_ok-push.ensures.ok
+
+pub infer_fields-returns : goal.infer_fields-returns
+infer_fields-returns t c =
+    fields_all c.args.names.now c.args.props.now c.args.bindings c.requires c.loop-prop.asked (λ s. ground_fields s (fields_of (map entry_term c.loop-prop.fields))) c.loop-prop.prop-index c.loop-prop-test.false c.loop-prop.invariant
+
+-- texts
+
+pub infer-returns-in-Text : goal.infer-returns-in-Text
+infer-returns-in-Text t c =
+    subst (λ T. IfOk c.infer_text.result (Finds T c.args.bindings))
+    (ap (λ ps. ShapeOf c.args.names.now (text (parts_of (map part ps)))) c.as_slice.ensures
+    ∙ at_node c.args.names.now c.args.expr.now c.get.result.now (text (parts_of (map part c.in-Text.parts))) c.get.ensures (ap shape_of c.in-Text.is ∙ shape_text c.in-Text.parts)) c.infer_text.ensures
+
+pub infer_text-returns-in-None : goal.infer_text-returns-in-None
+infer_text-returns-in-None t c =
+    no_part c.args.names.now c.args.parts.now c.args.bindings c.requires c.loop-next.asked c.loop-next.next-index c.next-item.result c.loop-next-test.true c.next-item.is c.loop-next.invariant
+    (subst (FindsThat (PartOf c.args.names.now c.next-item.result) c.loop-next.asked) c.in-None.is c.in_ok-bindings.ensures)
+
+pub infer_text-loop-next-preserved : goal.infer_text-loop-next-preserved
+infer_text-loop-next-preserved t c =
+    text_grow c.args.names.now c.args.parts.now c.args.bindings c.requires c.loop-next.asked c.loop-next.next-index c.next-item.result c.loop-next-test.true c.next-item.is c.loop-next.invariant c.in-Some.bindings
+    (subst (FindsThat (PartOf c.args.names.now c.next-item.result) c.loop-next.asked) c.in-Some.is c.in_ok-bindings.ensures)
+
+pub infer_text-returns : goal.infer_text-returns
+infer_text-returns t c =
+    text_found c.args.names.now c.args.parts.now c.args.bindings c.requires c.loop-next.asked c.text_type.result.bindings c.loop-next.next-index (λ s. ground s (term c.text_type.result.ty)) c.loop-next-test.false c.loop-next.invariant c.text_type.ensures
+
+pub infer_part-returns-in-Piece : goal.infer_part-returns-in-Piece
+infer_part-returns-in-Piece t c = piece_found c.args.names.now c.args.next.now c.in-Piece.field-0 c.args.bindings (ap part c.in-Piece.is ∙ part_piece c.in-Piece.field-0)
+
+pub infer_part-returns-in_ok-among-in-Some : goal.infer_part-returns-in_ok-among-in-Some
+infer_part-returns-in_ok-among-in-Some t c =
+    hole_found c.args.names.now c.args.next.now c.in-Hole.hole c.args.bindings c.in-Some.found.bindings c.in_ok-among-in-Some.field-0 (λ s. ground s (term c.in-Some.found.ty)) (ap part c.in-Hole.is ∙ part_hole c.in-Hole.hole)
+    (subst (Finds (TypeOf c.args.names.now c.in-Hole.hole) c.args.bindings) c.in-Some.is c.in_ok-found.ensures) c.in_ok-among-in-Some.ensures
+
+pub infer_part-returns-in-None : goal.infer_part-returns-in-None
+infer_part-returns-in-None t c =
+    no_hole c.args.names.now c.args.next.now c.in-Hole.hole c.args.bindings (ap part c.in-Hole.is ∙ part_hole c.in-Hole.hole) (subst (Finds (TypeOf c.args.names.now c.in-Hole.hole) c.args.bindings) c.in-None.is c.in_ok-found.ensures)
 
 pub infer_prefix-returns-in_ok-prefixed-in-Some : goal.infer_prefix-returns-in_ok-prefixed-in-Some
 infer_prefix-returns-in_ok-prefixed-in-Some t c =
@@ -202,7 +337,7 @@ infer_name-returns-in-Imported t c =
 pub infer-returns-in-Chain : goal.infer-returns-in-Chain
 infer-returns-in-Chain t c =
     subst (λ T. IfOk c.infer_chain.result (Finds T c.args.bindings))
-    (ap (λ ls. ShapeOf c.args.names.now (chain (tree_of c.in-Chain.first) (links_of (map link ls)))) c.as_slice.ensures
+    (ap (λ ls. ShapeOf c.args.names.now (chain (tree_of c.in-Chain.first) (links_of (map link ls)))) c.as_slice-in-Chain.ensures
     ∙ at_node c.args.names.now c.args.expr.now c.get.result.now (chain (tree_of c.in-Chain.first) (links_of (map link c.in-Chain.rest))) c.get.ensures (ap shape_of c.in-Chain.is ∙ shape_chain c.in-Chain.first c.in-Chain.rest)) c.infer_chain.ensures
 
 pub infer_chain-loop-next-init : goal.infer_chain-loop-next-init

@@ -1,9 +1,11 @@
-use Rattle.std.proofs.Common.{◌*◌, ◌+◌, take}
-use Rattle.fx_types.specs.Instance.{ground}
-use Rattle.fx_types.specs.Shape.{term}
+use Rattle.std.proofs.Common.{◌*◌, ◌+◌, map, take}
+use Rattle.fx_types.specs.Instance.{ground, ground_fields}
+use Rattle.fx_types.specs.Shape.{term, entry_term, fields_of}
 use Rattle.fx_infer.specs.Infers.{Infers, Asks}
+use Rattle.fx_infer.specs.Records.{MakesOf}
 use Rattle.fx_infer.proofs.ChainArms.{ChainOf}
 use Rattle.fx_infer.proofs.MoreArms.{ItemsOf}
+use Rattle.fx_infer.proofs.TextArms.{TextOf}
 use Rattle.fx_infer.proofs.infer.+infer.Given as goal
 
 abbrev pub decreases-infer : goal.decreases-infer
@@ -14,6 +16,30 @@ decreases-infer_prefix l = 4 * l.room + 2
 
 abbrev pub decreases-infer_index : goal.decreases-infer_index
 decreases-infer_index l = 4 * l.room + 2
+
+abbrev pub decreases-infer_member : goal.decreases-infer_member
+decreases-infer_member l = 4 * l.room + 2
+
+abbrev pub decreases-infer_record : goal.decreases-infer_record
+decreases-infer_record l = 4 * l.room + 3
+
+abbrev pub decreases-infer_base : goal.decreases-infer_base
+decreases-infer_base l = 4 * l.room + 2
+
+abbrev pub decreases-infer_fields : goal.decreases-infer_fields
+decreases-infer_fields l = 4 * l.room + 2
+
+abbrev pub invariant-infer_fields-loop-prop : goal.invariant-infer_fields-loop-prop
+invariant-infer_fields-loop-prop l = Infers (MakesOf l.names (take l.prop-index l.props)) l.fn.bindings l.asked (λ s. ground_fields s (fields_of (map entry_term l.fields)))
+
+abbrev pub decreases-infer_text : goal.decreases-infer_text
+decreases-infer_text l = 4 * l.room + 2
+
+abbrev pub decreases-infer_part : goal.decreases-infer_part
+decreases-infer_part l = 4 * l.room + 1
+
+abbrev pub invariant-infer_text-loop-next : goal.invariant-infer_text-loop-next
+invariant-infer_text-loop-next l = Asks (TextOf l.names (take l.next-index l.parts)) l.fn.bindings l.asked
 
 abbrev pub decreases-typed : goal.decreases-typed
 decreases-typed l = 4 * l.room + 1
@@ -28,7 +54,7 @@ abbrev pub invariant-infer_array-loop-item : goal.invariant-infer_array-loop-ite
 invariant-infer_array-loop-item l = Asks (λ s. ItemsOf l.names (take l.item-index l.items) s (ground s (term l.element.ty))) l.initial.asked l.asked
 
 abbrev pub decreases-infer_name : goal.decreases-infer_name
-decreases-infer_name l = 4 * l.room + 2
+decreases-infer_name l = 4 * l.room + 1
 
 abbrev pub decreases-infer_link : goal.decreases-infer_link
 decreases-infer_link l = 4 * l.room + 1

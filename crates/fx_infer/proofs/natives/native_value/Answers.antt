@@ -1,11 +1,11 @@
-use Rattle.std.proofs.Common.{◌≡◌, ◌∙◌, IfOk, Some, sym, subst}
-use Rattle.fx_schemes.specs.declared.list.Builtin.{Builtin}
-use Rattle.fx_schemes.specs.Names.{IsId, builtin_of}
+use Rattle.std.proofs.Common.{IfOk, subst}
+use Rattle.fx_schemes.specs.Names.{builtin_of}
+use Rattle.fx_types.specs.Size.{IsType}
+use Rattle.fx_infer.specs.Ask.{type_is}
 use Rattle.fx_infer.specs.Finds.{Finds}
-use Rattle.fx_infer.proofs.NativeLaws.{found_builtin, natives_are}
+use Rattle.fx_infer.specs.Native.{native}
 use Rattle.fx_infer.proofs.natives.native_value.Goals as goal
 
-pub returns-in-Some : goal.returns-in-Some
-returns-in-Some c =
-    let found : (b : Builtin) × (builtin_of c.in_ok-package.package c.args.label.now ≡ Some b) × IsId c.in-Some.id b = found_builtin (builtin_of c.in_ok-package.package c.args.label.now) c.in-Some.id (sym c.builtin.ensures ∙ c.in-Some.is) in
-    subst (λ T. IfOk c.value_of.result (Finds T c.args.bindings)) (natives_are c.args.label.now c.in_ok-package.package found.0 c.in_ok-package.ensures found.1) (c.value_of.ensures found.0 found.2)
+pub returns : goal.returns
+returns c =
+    subst (λ path. IfOk c.native_of.result (Finds (λ s u. IsType u × native (builtin_of path c.args.label.now) (type_is u)) c.args.bindings)) c.in_ok-universe.ensures c.native_of.ensures
