@@ -22,3 +22,4 @@ pub mod UseLaws
 pub mod UsingLaws
 pub mod WordLaws
 pub mod Worked
+pub mod WrittenLaws

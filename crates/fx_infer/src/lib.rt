@@ -14,3 +14,4 @@ mod scope;
 mod stop;
 mod terms;
 mod uses;
+mod words;
