@@ -1,6 +1,7 @@
 -- The words of a call as its trees are written.
-use Rattle.std.proofs.Common.{◌≡◌, refl, sym, ap, ◌∙◌, ℕ, ◌+◌, ◌≤◌, ◌<◌, List, [], ◌∷◌, ◌++◌, map, take, drop, length, get_or, Option, None, Some, append_assoc, append-nil, arith}
+use Rattle.std.proofs.Common.{◌≡◌, refl, sym, ap, subst, ◌∙◌, ℕ, ◌+◌, ◌≤◌, ◌<◌, List, [], ◌∷◌, ◌++◌, map, take, drop, length, get_or, Option, None, Some, append_assoc, append-nil, false, arith}
 use Rattle.std.proofs.lemmas.List.{at_drop_more, at_drop_all, take_more}
+use Rattle.fx_types.specs.Ground.{Ground}
 use Rattle.fx_types.specs.Term.{Label}
 use Rattle.fx_schemes.specs.declared.form.Form.{Form}
 use Rattle.fx_schemes.specs.declared.form.Form.TheVariants as form
@@ -26,7 +27,10 @@ use Rattle.fx_ast.specs.declared.expr.Prop.{Prop}
 use Rattle.fx_base.specs.declared.place.Place.{Place}
 use Rattle.fx_types.proofs.Lists.{take_all}
 use Rattle.fx_infer.specs.Parameters.{prop_names}
-use Rattle.fx_infer.specs.Words.{plain_text, with_first, item_texts, value_texts, many_words, new_words, words_at_label, said, and_words, words_of_call}
+use Rattle.fx_infer.specs.Ask.{Ask, Scope}
+use Rattle.fx_infer.specs.Callees.{is_literal}
+use Rattle.fx_infer.specs.Typing.{has, has_pipe, callee}
+use Rattle.fx_infer.specs.Words.{IsInForce, plain_text, with_first, item_texts, value_texts, many_words, new_words, words_at_label, said, and_words, words_of_call}
 
 -- an expression by its node
 
@@ -62,6 +66,42 @@ module _ (place : Place) where
   unfolding shape_of tree_of part prop param body link
   name_layer x (Node-F.Name y) h = absurd (h y (node.rolls-Name y))
   name_layer x l h = ap (λ s. said form.Name x (tree place s)) (fold-roll-Node Shape Default OfPart OfBody Tree OfLink OfParam OfProp node_shape kind_shape part_shape body_shape expr_shape link_shape param_shape prop_shape l)
+
+  force_layer : (S : Scope) (l : Layer) → ((y : Label) → ¬ (roll-Node l ≡ node.Name y)) → IsInForce form.Name (tree place (shape_in l)) S
+  unfolding shape_of tree_of part prop param body link
+  force_layer S (Node-F.Name y) h = absurd (h y (node.rolls-Name y))
+  force_layer S l h = subst (λ s. IsInForce form.Name (tree place s) S) (sym (fold-roll-Node Shape Default OfPart OfBody Tree OfLink OfParam OfProp node_shape kind_shape part_shape body_shape expr_shape link_shape param_shape prop_shape l)) tt
+
+  literal_layer : (l : Layer) → ((ps : List Param) (b : Body) → ¬ (roll-Node l ≡ node.Fun ps b)) → ((d : Expr) → ¬ (roll-Node l ≡ node.Paren d)) → is_literal (tree place (shape_in l)) ≡ false
+  unfolding shape_of tree_of part prop param body link
+  literal_layer (Node-F.Fun ps b) f h = absurd (f ps b (node.rolls-Fun ps b))
+  literal_layer (Node-F.Paren d) f h = absurd (h d (node.rolls-Paren d))
+  literal_layer l f h = ap (λ s. is_literal (tree place s)) (fold-roll-Node Shape Default OfPart OfBody Tree OfLink OfParam OfProp node_shape kind_shape part_shape body_shape expr_shape link_shape param_shape prop_shape l)
+
+  callee_layer : (S : Scope) (q : Ask) (l : Layer) → ((y : Label) → ¬ (roll-Node l ≡ node.Name y)) → ((d : Expr) (x : Label) → ¬ (roll-Node l ≡ node.Member d x)) → callee (tree place (shape_in l)) S q ≡ has (tree place (shape_in l)) S q
+  unfolding shape_of tree_of part prop param body link
+  callee_layer S q (Node-F.Name y) f h = absurd (f y (node.rolls-Name y))
+  callee_layer S q (Node-F.Member d x) f h = absurd (h d x (node.rolls-Member d x))
+  callee_layer S q l f h = subst (λ s. callee (tree place s) S q ≡ has (tree place s) S q) (sym (fold-roll-Node Shape Default OfPart OfBody Tree OfLink OfParam OfProp node_shape kind_shape part_shape body_shape expr_shape link_shape param_shape prop_shape l)) refl
+
+  call_layer : (S : Scope) (u t : Ground) (l : Layer) → ((d : Expr) (ps : List Prop) → ¬ (roll-Node l ≡ node.Call d ps)) → has_pipe (tree place (shape_in l)) S u t → ⊥
+  unfolding shape_of tree_of part prop param body link
+  call_layer S u t (Node-F.Call d ps) h = absurd (h d ps (node.rolls-Call d ps))
+  call_layer S u t l h = λ k. subst (λ s. has_pipe (tree place s) S u t) (fold-roll-Node Shape Default OfPart OfBody Tree OfLink OfParam OfProp node_shape kind_shape part_shape body_shape expr_shape link_shape param_shape prop_shape l) k
+
+-- what is no name, and no function literal
+
+pub no_name_force : (e : Expr) (n : Node) (S : Scope) → n ≡ e.node → ((y : Label) → ¬ (n ≡ node.Name y)) → IsInForce form.Name (tree_of e) S
+no_name_force e n S is h = subst (λ t. IsInForce form.Name t S) (sym (rolled e n is)) (force_layer e.place S (out-Node n) (λ y at. h y (sym (roll-out-Node n) ∙ at)))
+
+pub no_call : (e : Expr) (n : Node) (S : Scope) (u t : Ground) → n ≡ e.node → ((d : Expr) (ps : List Prop) → ¬ (n ≡ node.Call d ps)) → has_pipe (tree_of e) S u t → ⊥
+no_call e n S u t is h k = call_layer e.place S u t (out-Node n) (λ d ps at. h d ps (sym (roll-out-Node n) ∙ at)) (subst (λ x. has_pipe x S u t) (rolled e n is) k)
+
+pub no_literal : (e : Expr) (n : Node) → n ≡ e.node → ((ps : List Param) (b : Body) → ¬ (n ≡ node.Fun ps b)) → ((d : Expr) → ¬ (n ≡ node.Paren d)) → is_literal (tree_of e) ≡ false
+no_literal e n is f h = ap is_literal (rolled e n is) ∙ literal_layer e.place (out-Node n) (λ ps b at. f ps b (sym (roll-out-Node n) ∙ at)) (λ d at. h d (sym (roll-out-Node n) ∙ at))
+
+pub other_callee : (e : Expr) (n : Node) (S : Scope) (q : Ask) → n ≡ e.node → ((y : Label) → ¬ (n ≡ node.Name y)) → ((d : Expr) (x : Label) → ¬ (n ≡ node.Member d x)) → callee (tree_of e) S q ≡ has (tree_of e) S q
+other_callee e n S q is f h = subst (λ t. callee t S q ≡ has t S q) (sym (rolled e n is)) (callee_layer e.place S q (out-Node n) (λ y at. f y (sym (roll-out-Node n) ∙ at)) (λ d x at. h d x (sym (roll-out-Node n) ∙ at)))
 
 pub no_text : (e : Expr) (n : Node) → n ≡ e.node → ((ps : List Part) → ¬ (n ≡ node.Text ps)) → plain_text (tree_of e) ≡ None
 no_text e n is h = ap plain_text (rolled e n is) ∙ text_layer e.place (out-Node n) (λ ps at. h ps (sym (roll-out-Node n) ∙ at))
