@@ -1,8 +1,10 @@
 pub mod ApartLaws
+pub mod ArgLaws
 pub mod ArmLaws
 pub mod AskingLaws
 pub mod ByLineLaws
 pub mod CallLaws
+pub mod CalleeLaws
 pub mod CalledLaws
 pub mod ChainArms
 pub mod DivideLaws
@@ -26,3 +28,4 @@ pub mod UseLaws
 pub mod UsingLaws
 pub mod WordLaws
 pub mod Worked
+pub mod WrittenLaws

@@ -1,5 +1,6 @@
 pub mod Arguments
 pub mod Ask
+pub mod Callees
 pub mod Calls
 pub mod Environment
 pub mod Finds

@@ -1,7 +1,9 @@
 //! Inference: which statements of a script have types.
 #![tactic(auto)]
 
+mod arguments;
 mod ask;
+mod callee;
 mod calls;
 mod infer;
 mod kept;
@@ -17,3 +19,4 @@ mod scope;
 mod stop;
 mod terms;
 mod uses;
+mod words;
