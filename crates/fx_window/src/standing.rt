@@ -72,14 +72,22 @@ fn time_in(value: Option<&Scalar>) -> Option<i64>
     }
 }
 
+/// Where rows had the three times.
+#[derive(Drop)]
+struct Places {
+    time: usize,
+    start: usize,
+    stop: usize,
+}
+
 /// The three times of the row, where it has all of them.
-fn stand_in(labels: &Labels, row: &Row) -> Option<Stand>
+fn stand_in(labels: &Labels, places: &mut Places, row: &Row) -> Option<Stand>
     requires { AreLabels labels.now }
     ensures { result ≡ stand_in row.now }
 {
-    let time = time_in(row.get(&labels.time));
-    let low = time_in(row.get(&labels.start));
-    let high = time_in(row.get(&labels.stop));
+    let time = time_in(row.get_near(&labels.time, &mut places.time));
+    let low = time_in(row.get_near(&labels.start, &mut places.start));
+    let high = time_in(row.get_near(&labels.stop, &mut places.stop));
     match (time, low, high) {
         (Some(time), Some(low), Some(high)) => Some(Stand { time, low, high }),
         _ => None,
@@ -106,8 +114,13 @@ pub(crate) fn place_rows(
     ensures { IfOk result (λ v. v.items ≡ placed_all rows) }
 {
     let mut placed = Vec::new(alloc);
+    let mut places = Places {
+        time: 0,
+        start: 0,
+        stop: 0,
+    };
     for row in rows.into_vec() {
-        let at = stand_in(labels, &row);
+        let at = stand_in(labels, &mut places, &row);
         push_placed(&mut placed, at, row)?;
     }
     Ok(placed)
