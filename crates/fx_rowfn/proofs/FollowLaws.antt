@@ -30,7 +30,7 @@ use Rattle.fx_rowfn.proofs.RunLaws.{stack_pushed}
 pub waits : (f : Frame) (n : ℕ) → plain.deeper (frame_of f) n ≡ n
 waits (frame.Sign a b) n = refl
 waits (frame.Branch a b c) n = refl
-waits (frame.LeftOf a b) n = refl
+waits (frame.LeftOf a b c) n = refl
 waits (frame.RightOf a b c d e g) n = refl
 waits (frame.Item a b c d) n = refl
 waits (frame.Field a b c d e) n = refl
@@ -42,6 +42,7 @@ waits (frame.PipedArgument a b c d e g h i) n = refl
 waits (frame.Member a) n = refl
 waits (frame.IndexedBy a b c) n = refl
 waits (frame.IndexOf a b) n = refl
+waits (frame.Hole a b c d e) n = refl
 waits (frame.Default a b) n = refl
 waits (frame.Assigned a b) n = refl
 

@@ -1,8 +1,13 @@
 pub mod AnswerLaws
 pub mod FollowLaws
 pub mod FrameLaws
+pub mod MemberLaws
 pub mod MoveLaws
+pub mod NameLaws
 pub mod NodeLaws
+pub mod OperatorLaws
 pub mod PartLaws
 pub mod ResumeLaws
 pub mod RunLaws
+pub mod StepLaws
+pub mod TextLaws

@@ -5,8 +5,8 @@ use Rattle.std.specs.Prelude.{Option, None, Some}
 use Rattle.std.specs.List.{HoldsAt}
 use Rattle.std.specs.Option.{IfSome, MatchOption}
 use Rattle.fx_ast.proofs.ShapeLaws.{shape_int, shape_time, shape_span, shape_text, shape_pattern, shape_name, shape_paren, shape_array, shape_rec, shape_fun, shape_call, shape_pipe, shape_member, shape_index, shape_chain, shape_prefix, shape_if, tree_is}
-use Rattle.fx_ast.specs.Shape.{link, links_of, prop, props_of, shape_of, tree_of, trees_of}
-use Rattle.fx_ast.specs.Tree.{Shape, no_trees, more_trees, no_props, more_props, no_links, more_links}
+use Rattle.fx_ast.specs.Shape.{OfPart, a_piece, a_hole, link, links_of, part, parts_of, prop, props_of, shape_of, tree_of, trees_of}
+use Rattle.fx_ast.specs.Tree.{Parts, Shape, no_trees, more_trees, no_props, more_props, no_links, more_links, no_parts}
 use Rattle.fx_ast.specs.declared.expr.Body.{Body}
 use Rattle.fx_ast.specs.declared.expr.Expr.{Expr}
 use Rattle.fx_ast.specs.declared.expr.Link.{Link}
@@ -18,8 +18,8 @@ use Rattle.fx_ast.specs.declared.expr.Param.{Param}
 use Rattle.fx_ast.specs.declared.expr.ParamKind.{ParamKind}
 use Rattle.fx_ast.specs.declared.expr.Part.{Part}
 use Rattle.fx_ast.specs.declared.expr.Prop.{Prop}
-use Rattle.fx_rowfn.specs.Parts.{LinkAt, PropAt, TreeAt}
-use Rattle.fx_rowfn.specs.State.{links_from, links_in, links_past, props_from, props_in, props_past, trees_from, trees_in, trees_past}
+use Rattle.fx_rowfn.specs.Parts.{LinkAt, PartAt, PropAt, TreeAt, with_part}
+use Rattle.fx_rowfn.specs.State.{links_from, links_in, links_past, parts_from, parts_in, parts_past, props_from, props_in, props_past, trees_from, trees_in, trees_past}
 use denote.Bor.{Bor}
 
 trees_layer : (n : Node) (l : Node-F Node ParamKind Part Body Expr Link Param Prop) → n ≡ roll-Node l → ((es : List Expr) → ¬ (n ≡ node.Array es)) → ((e : Expr) → (es : List Expr) → ¬ (n ≡ node.Pipe e es)) → trees_in (shape_of n) ≡ no_trees
@@ -87,6 +87,28 @@ links_layer n (Node-F.If a b c) is h0 = ap links_in (ap shape_of (is ∙ node.ro
 
 pub links_else : (n : Node) → ((e : Expr) → (ls : List Link) → ¬ (n ≡ node.Chain e ls)) → links_in (shape_of n) ≡ no_links
 links_else n = links_layer n (out-Node n) (sym (roll-out-Node n))
+
+parts_layer : (n : Node) (l : Node-F Node ParamKind Part Body Expr Link Param Prop) → n ≡ roll-Node l → ((ps : List Part) → ¬ (n ≡ node.Text ps)) → parts_in (shape_of n) ≡ no_parts
+parts_layer n (Node-F.Int k) is h0 = ap parts_in (ap shape_of (is ∙ node.rolls-Int k) ∙ shape_int k)
+parts_layer n (Node-F.Time k) is h0 = ap parts_in (ap shape_of (is ∙ node.rolls-Time k) ∙ shape_time k)
+parts_layer n (Node-F.Span k) is h0 = ap parts_in (ap shape_of (is ∙ node.rolls-Span k) ∙ shape_span k)
+parts_layer n (Node-F.Text k) is h0 = absurd (h0 k (is ∙ node.rolls-Text k))
+parts_layer n (Node-F.Pattern k) is h0 = ap parts_in (ap shape_of (is ∙ node.rolls-Pattern k) ∙ shape_pattern k)
+parts_layer n (Node-F.Name k) is h0 = ap parts_in (ap shape_of (is ∙ node.rolls-Name k) ∙ shape_name k)
+parts_layer n (Node-F.Paren k) is h0 = ap parts_in (ap shape_of (is ∙ node.rolls-Paren k) ∙ shape_paren k)
+parts_layer n (Node-F.Array es) is h0 = ap parts_in (ap shape_of (is ∙ node.rolls-Array es) ∙ shape_array es)
+parts_layer n (Node-F.Rec b ps) is h0 = ap parts_in (ap shape_of (is ∙ node.rolls-Rec b ps) ∙ shape_rec b ps)
+parts_layer n (Node-F.Fun ps b) is h0 = ap parts_in (ap shape_of (is ∙ node.rolls-Fun ps b) ∙ shape_fun ps b)
+parts_layer n (Node-F.Call e ps) is h0 = ap parts_in (ap shape_of (is ∙ node.rolls-Call e ps) ∙ shape_call e ps)
+parts_layer n (Node-F.«Node::Pipe» e es) is h0 = ap parts_in (ap shape_of (is ∙ node.rolls-Pipe e es) ∙ shape_pipe e es)
+parts_layer n (Node-F.Member e x) is h0 = ap parts_in (ap shape_of (is ∙ node.rolls-Member e x) ∙ shape_member e x)
+parts_layer n (Node-F.Index e i) is h0 = ap parts_in (ap shape_of (is ∙ node.rolls-Index e i) ∙ shape_index e i)
+parts_layer n (Node-F.Chain e ls) is h0 = ap parts_in (ap shape_of (is ∙ node.rolls-Chain e ls) ∙ shape_chain e ls)
+parts_layer n (Node-F.Prefix s e) is h0 = ap parts_in (ap shape_of (is ∙ node.rolls-Prefix s e) ∙ shape_prefix s e)
+parts_layer n (Node-F.If a b c) is h0 = ap parts_in (ap shape_of (is ∙ node.rolls-If a b c) ∙ shape_if a b c)
+
+pub parts_else : (n : Node) → ((ps : List Part) → ¬ (n ≡ node.Text ps)) → parts_in (shape_of n) ≡ no_parts
+parts_else n = parts_layer n (out-Node n) (sym (roll-out-Node n))
 
 found_at : {X R : Type 0} (whole : List X → R) (xs : List X) (n : ℕ) (x : X) → n < length xs → x ≡ get_or xs n x → whole (drop n xs) ≡ whole (x ∷ drop (n + 1) xs)
 found_at whole xs n x below is = at_drop_more whole xs n x below ∙ ap (λ y. whole (y ∷ drop (n + 1) xs)) (sym is)
@@ -162,3 +184,36 @@ links_found e shape xs given n r is has same read found =
     let from : (λ k. links_past k (links_of (map link given))) ≡ links_from (tree_of e)
     = (λ i k. links_past k ((ap (λ l. links_of (map link l)) same ∙ sym has ∙ sym (ap links_in is)) i)) ∙ (λ i. links_from (sym (tree_is e) i)) in
     subst (λ g. LinkAt g n r) from (links_list given n r read found)
+
+pub parts_none_past : (n : ℕ) → parts_past n no_parts ≡ no_parts
+parts_none_past zero = refl
+parts_none_past (suc n) = refl
+
+one_of_parts : (o : OfPart) (os : List OfPart) → parts_of (o ∷ os) ≡ with_part o (parts_of os)
+one_of_parts (a_piece s) os = refl
+one_of_parts (a_hole e) os = refl
+
+one_past : (n : ℕ) (o : OfPart) (ps : Parts) → parts_past (suc n) (with_part o ps) ≡ parts_past n ps
+one_past n (a_piece s) ps = refl
+one_past n (a_hole e) ps = refl
+
+pub parts_past_of : (n : ℕ) (xs : List Part) → parts_past n (parts_of (map part xs)) ≡ parts_of (map part (drop n xs))
+parts_past_of zero xs = refl
+parts_past_of (suc n) [] = refl
+parts_past_of (suc n) (x ∷ xs) = ap (parts_past (suc n)) (one_of_parts (part x) (map part xs)) ∙ one_past n (part x) (parts_of (map part xs)) ∙ parts_past_of n xs
+
+parts_list : (xs : List Part) (n : ℕ) (r : Option (Bor Part)) → IfSome r (λ x. x.now ≡ get_or xs n x.now)
+    → MatchOption r (length xs ≤ n) (λ x. (n < length xs) × HoldsAt (λ y. x.now ≡ y) xs n) → PartAt (λ k. parts_past k (parts_of (map part xs))) n r
+parts_list xs n None is found = parts_past_of n xs ∙ at_drop_all (λ l. parts_of (map part l)) xs n found
+parts_list xs n (Some x) is found =
+    parts_past_of n xs ∙ found_at (λ l. parts_of (map part l)) xs n x.now found.0 is
+    ∙ one_of_parts (part x.now) (map part (drop (n + 1) xs)) ∙ ap (with_part (part x.now)) (sym (parts_past_of (n + 1) xs))
+
+-- where the node has this list
+pub parts_found : (e : Expr) (shape : Shape) (xs given : List Part) (n : ℕ) (r : Option (Bor Part)) → shape_of e.node ≡ shape → parts_in shape ≡ parts_of (map part xs) → given ≡ xs
+    → IfSome r (λ x. x.now ≡ get_or given n x.now) → MatchOption r (length given ≤ n) (λ x. (n < length given) × HoldsAt (λ y. x.now ≡ y) given n)
+    → PartAt (parts_from (tree_of e)) n r
+parts_found e shape xs given n r is has same read found =
+    let from : (λ k. parts_past k (parts_of (map part given))) ≡ parts_from (tree_of e)
+    = (λ i k. parts_past k ((ap (λ l. parts_of (map part l)) same ∙ sym has ∙ sym (ap parts_in is)) i)) ∙ (λ i. parts_from (sym (tree_is e) i)) in
+    subst (λ g. PartAt g n r) from (parts_list given n r read found)

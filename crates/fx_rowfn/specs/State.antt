@@ -1,12 +1,15 @@
 -- The state of an evaluation as plain data, and the work that is left in it.
-use Rattle.std.specs.Prelude.{◌≡◌, ℕ, zero, suc, List, [], ◌∷◌, ◌++◌, Option, None, Some, Result, Ok, Err, map}
+use Rattle.std.specs.Prelude.{◌≡◌, ℕ, zero, suc, List, [], ◌∷◌, ◌++◌, Option, None, Some, Result, Ok, Err, map, option_map}
+use Rattle.std.specs.String.{string_bytes}
 use Rattle.fx_ast.specs.Shape.{tree_of}
-use Rattle.fx_ast.specs.Tree.{Tree, tree, Shape, array, call, chain, pipe, rec, Trees, no_trees, more_trees, Props, no_props, more_props, Params, no_params, more_params, Links, no_links, more_links}
+use Rattle.fx_ast.specs.Tree.{Tree, tree, Shape, array, call, chain, pipe, rec, Trees, no_trees, more_trees, Props, no_props, more_props, Params, no_params, more_params, Links, no_links, more_links, text, Parts, no_parts, piece, hole}
 use Rattle.fx_base.specs.declared.place.Place.{Place}
 use Rattle.fx_value.specs.Ends.{End, Faults, Stuck}
-use Rattle.fx_meaning.specs.Ends.{◌>>=◌}
-use Rattle.fx_meaning.specs.Meaning.{Tests, bound, means, means_lets, means_shape}
-use Rattle.fx_meaning.specs.Value.{Slots, Val}
+use Rattle.fx_meaning.specs.Ends.{◌>>=◌, pure}
+use Rattle.fx_meaning.specs.Meaning.{Tests, bound, means, means_lets, means_parts, means_props, means_shape, means_trees}
+use Rattle.fx_meaning.specs.Operators.{text_made}
+use Rattle.fx_meaning.specs.Value as value
+use Rattle.fx_meaning.specs.Value.{Slots, Val, Vals}
 use Rattle.fx_values.specs.Shape.{OfClosure, closed, slot, slots_of, val, vals_of}
 use Rattle.fx_values.specs.declared.stop.Stop.{Stop}
 use Rattle.fx_values.specs.declared.stop.Stop.TheVariants as stop
@@ -37,6 +40,10 @@ abbrev pub links_in : Shape → Links
 links_in (chain e ls) = ls
 links_in _ = no_links
 
+abbrev pub parts_in : Shape → Parts
+parts_in (text ps) = ps
+parts_in _ = no_parts
+
 abbrev pub trees_past : ℕ → Trees → Trees
 trees_past zero es = es
 trees_past (suc n) no_trees = no_trees
@@ -52,6 +59,12 @@ links_past zero ls = ls
 links_past (suc n) no_links = no_links
 links_past (suc n) (more_links place op e ls) = links_past n ls
 
+abbrev pub parts_past : ℕ → Parts → Parts
+parts_past zero ps = ps
+parts_past (suc n) no_parts = no_parts
+parts_past (suc n) (piece s ps) = parts_past n ps
+parts_past (suc n) (hole e ps) = parts_past n ps
+
 abbrev pub params_past : ℕ → Params → Params
 params_past zero ps = ps
 params_past (suc n) no_params = no_params
@@ -66,6 +79,9 @@ props_from (tree place s) n = props_past n (props_in s)
 abbrev pub links_from : Tree → ℕ → Links
 links_from (tree place s) n = links_past n (links_in s)
 
+abbrev pub parts_from : Tree → ℕ → Parts
+parts_from (tree place s) n = parts_past n (parts_in s)
+
 -- ---- scopes, frames and what is done
 
 abbrev pub scope_of : Scope → plain.Scope
@@ -77,7 +93,7 @@ args_of e = slots_of (map slot e.args.value)
 abbrev pub frame_of : Frame → plain.Frame
 frame_of (frame.Sign place sign) = plain.sign place sign
 frame_of (frame.Branch scope a b) = plain.branch (scope_of scope) (tree_of a) (tree_of b)
-frame_of (frame.LeftOf scope e) = plain.left_of (scope_of scope) (links_from (tree_of e) 0)
+frame_of (frame.LeftOf scope e n) = plain.left_of (scope_of scope) (links_from (tree_of e) n)
 frame_of (frame.RightOf scope place op left e n) = plain.right_of (scope_of scope) place op (val left) (links_from (tree_of e) n)
 frame_of (frame.Item scope done e n) = plain.item (scope_of scope) (vals_of (map val done)) (trees_from (tree_of e) n)
 frame_of (frame.Field scope done x e n) = plain.field (scope_of scope) (slots_of (map slot done)) x (props_from (tree_of e) n)
@@ -90,6 +106,7 @@ frame_of (frame.PipedArgument scope place input f done x e n) =
 frame_of (frame.Member x) = plain.member x
 frame_of (frame.IndexedBy scope place at) = plain.indexed_by (scope_of scope) place (tree_of at)
 frame_of (frame.IndexOf place v) = plain.index_of place (val v)
+frame_of (frame.Hole scope place before e n) = plain.hole (scope_of scope) place (option_map string_bytes before) (parts_from (tree_of e) n)
 frame_of (frame.Default e x) =
     plain.default_of (scope_of e.scope) (closed e.closure.value).captured (args_of e) x (params_past e.next (closed e.closure.value).params) (closed e.closure.value).lets (closed e.closure.value).result
 frame_of (frame.Assigned e x) = plain.assigned (scope_of e.scope) x (props_past e.next (closed e.closure.value).lets) (closed e.closure.value).result
@@ -138,6 +155,17 @@ shape_left test scope place s limit fs = means_shape test (calls_above test limi
 -- what becomes of a value at a frame, and then at those below
 abbrev pub resumed_left : Tests → plain.Frame → Val → ℕ → List plain.Frame → End Val
 resumed_left test f v limit fs = plain.resumed test (calls_above test limit fs) f v >>= unwound test limit fs
+
+-- the work of further items, and of further properties, behind those that stand
+abbrev pub items_left : Tests → plain.Scope → Trees → Vals → ℕ → List plain.Frame → End Val
+items_left test scope es done limit fs = (means_trees test (calls_above test limit fs) scope.setting es scope.env done >>= (λ vs. pure (value.array vs))) >>= unwound test limit fs
+
+abbrev pub fields_left : Tests → plain.Scope → Props → Slots → ℕ → List plain.Frame → End Val
+fields_left test scope ps done limit fs = (means_props test (calls_above test limit fs) scope.setting ps scope.env done >>= (λ fields. pure (value.rec fields))) >>= unwound test limit fs
+
+-- the work of the further parts of a text, behind the text that stands
+abbrev pub parts_left : Tests → plain.Scope → Place → Parts → Option (List ℕ) → ℕ → List plain.Frame → End Val
+parts_left test scope place ps before limit fs = (means_parts test (calls_above test limit fs) scope.setting ps scope.env before >>= text_made place) >>= unwound test limit fs
 
 abbrev pub control_left : Tests → Control → ℕ → List plain.Frame → End Val
 control_left test c limit fs = left test limit fs c

@@ -15,8 +15,12 @@ ghost use Rattle.fx_value.specs.Ends.{End, and_then};
 ghost use Rattle.fx_values.specs.Shape.{val};
 ghost use Rattle.fx_values.specs.Told.{Tells};
 
+use crate::arrays::arrayed;
 use crate::frame::{Control, Frame, Next};
+use crate::names::{named, patterned};
+use crate::records::recorded;
 use crate::scope::Scope;
+use crate::texts::texted;
 use crate::unwritten::unwritten;
 use fx_ast::{Expr, Node, Prefix};
 use fx_base::{Memory, Place, Text};
@@ -107,17 +111,18 @@ fn indexed_by(scope: &Scope, place: Place, at: &Expr) -> Result<Frame, Memory>
 fn chained(scope: Scope, whole: &Expr, first: &Expr) -> Result<Next, Stop>
     ensures { (test : Tests) → Leads (shape_left test (scope_of scope) whole.now.place (chain (tree_of first.now) (links_from (tree_of whole.now) 0))) test result }
 {
-    let frame = left_of(&scope, whole)?;
+    let frame = left_of(&scope, whole, 0)?;
     let next = awaited(scope, first, frame)?;
     Ok(next)
 }
 
-fn left_of(scope: &Scope, whole: &Expr) -> Result<Frame, Memory>
-    ensures { IfOk result (λ f. frame_of f ≡ plain.left_of (scope_of scope.now) (links_from (tree_of whole.now) 0)) }
+pub(crate) fn left_of(scope: &Scope, chain: &Expr, next: usize) -> Result<Frame, Memory>
+    ensures { IfOk result (λ f. frame_of f ≡ plain.left_of (scope_of scope.now) (links_from (tree_of chain.now) next)) }
 {
     Ok(Frame::LeftOf {
         scope: scope.copy()?,
-        chain: whole.copy()?,
+        chain: chain.copy()?,
+        next,
     })
 }
 
@@ -129,7 +134,12 @@ pub(crate) fn evaluated(alloc: Global, scope: Scope, expr: &Expr) -> Result<Next
         Node::Int(n) => constant(integer(n)),
         Node::Time(t) => constant(moment(t)),
         Node::Span(d) => duration(*d),
+        Node::Text(_) => texted(alloc, scope, expr),
+        Node::Pattern(text) => patterned(&scope, expr.place, text),
+        Node::Name(label) => named(alloc, &scope, expr.place, label),
         Node::Paren(of) => inner(scope, of),
+        Node::Array(_) => arrayed(alloc, scope, expr),
+        Node::Rec { base, .. } => recorded(alloc, scope, expr, base),
         Node::Member { of, label } => member(scope, expr.place, of, label),
         Node::Index { of, at } => indexed(scope, expr.place, of, at),
         Node::Chain { first, .. } => chained(scope, expr, first),

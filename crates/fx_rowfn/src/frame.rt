@@ -19,6 +19,7 @@ pub(crate) enum Frame {
     LeftOf {
         scope: Scope,
         chain: Expr,
+        next: usize,
     },
     RightOf {
         scope: Scope,
@@ -87,6 +88,14 @@ pub(crate) enum Frame {
     IndexOf {
         place: Place,
         items: Value,
+    },
+    Hole {
+        scope: Scope,
+        place: Place,
+        /// The text before the hole, None once a hole was null.
+        before: Option<String>,
+        text: Expr,
+        next: usize,
     },
     Default {
         entry: Entry,

@@ -8,9 +8,14 @@ ghost use Rattle.fx_value.specs.Calls.{AreGiven, SamePatterns};
 ghost use Rattle.fx_values.specs.Known.{hears, numbers_of};
 ghost use Rattle.fx_values.specs.Shape.{val};
 
+use crate::arrays::item_known;
 use crate::eval::{awaited, given};
 use crate::frame::{Control, Frame, Next};
+use crate::members::{item_of, member_of};
+use crate::operators::{linked, linked_on, operated};
+use crate::records::field_known;
 use crate::scope::Scope;
+use crate::texts::hole_known;
 use crate::unwritten::unwritten;
 use fx_ast::Expr;
 use fx_base::{Patterns, Place};
@@ -32,7 +37,41 @@ pub(crate) fn resume<P: Patterns>(
     match frame {
         Frame::Sign { place, sign } => given(prefixed(place, sign, &value)),
         Frame::Branch { scope, yes, no } => branched(scope, yes, no, &value),
+        Frame::LeftOf { scope, chain, next } => linked(scope, &chain, next, value),
+        Frame::RightOf {
+            scope,
+            place,
+            op,
+            left,
+            chain,
+            next,
+        } => {
+            let told = operated(alloc, known, patterns, place, op, &left, &value);
+            linked_on(scope, &chain, next, told)
+        }
+        Frame::Item {
+            scope,
+            done,
+            array,
+            next,
+        } => item_known(alloc, scope, done, &array, next, value),
+        Frame::Field {
+            scope,
+            done,
+            label,
+            record: whole,
+            next,
+        } => field_known(alloc, scope, done, label, &whole, next, value),
+        Frame::Member { label } => given(member_of(alloc, &value, &label)),
         Frame::IndexedBy { scope, place, at } => index_awaited(scope, place, &at, value),
+        Frame::IndexOf { place, items } => given(item_of(place, &items, &value)),
+        Frame::Hole {
+            scope,
+            place,
+            before,
+            text,
+            next,
+        } => hole_known(alloc, scope, place, before, &text, next, &value),
         _ => unwritten(),
     }
 }

@@ -1,13 +1,13 @@
 use Rattle.std.proofs.Common.{sym, ap, subst, ◌∙◌, map}
-use Rattle.fx_ast.proofs.ShapeLaws.{shape_chain, shape_if, shape_index, shape_int, shape_member, shape_paren, shape_prefix, shape_span, shape_time}
-use Rattle.fx_ast.specs.Shape.{link, links_of, shape_of, tree_of}
-use Rattle.fx_ast.specs.Tree.{chain, if_then, index, int, member, paren, prefix, span, time}
+use Rattle.fx_ast.proofs.ShapeLaws.{shape_array, shape_chain, shape_if, shape_index, shape_int, shape_member, shape_name, shape_paren, shape_pattern, shape_prefix, shape_rec, shape_span, shape_text, shape_time}
+use Rattle.fx_ast.specs.Shape.{link, links_of, part, parts_of, prop, props_of, shape_of, tree_of, trees_of}
+use Rattle.fx_ast.specs.Tree.{array, chain, if_then, index, int, member, name, paren, pattern, prefix, rec, span, text, time}
 use Rattle.fx_value.specs.Ends.{and_then}
 use Rattle.fx_meaning.specs.Ends.{pure}
 use Rattle.fx_meaning.specs.Value as value
 use Rattle.fx_rowfn.specs.Frame.{unwound}
-use Rattle.fx_rowfn.specs.State.{Leads, links_from, scope_of, tree_left}
-use Rattle.fx_rowfn.proofs.NodeLaws.{by_node, first_links}
+use Rattle.fx_rowfn.specs.State.{Leads, links_from, parts_from, props_from, scope_of, tree_left, trees_from}
+use Rattle.fx_rowfn.proofs.NodeLaws.{all_items, all_parts, all_props, by_node, first_links}
 use Rattle.fx_rowfn.proofs.eval.evaluated.Goals as goal
 
 pub returns-in-Int : goal.returns-in-Int
@@ -49,6 +49,29 @@ returns-in-Chain c =
 pub returns-in-Span : goal.returns-in-Span
 returns-in-Span c =
     by_node c.args.expr.now (scope_of c.args.scope) (span c.in-Span.d) c.duration.result (ap shape_of (sym c.get.ensures ∙ c.in-Span.is) ∙ shape_span c.in-Span.d) c.duration.ensures
+
+pub returns-in-Text : goal.returns-in-Text
+returns-in-Text c =
+    by_node c.args.expr.now (scope_of c.args.scope) (text (parts_from (tree_of c.args.expr.now) 0)) c.texted.result
+    (all_parts c.args.expr.now (parts_of (map part c.in-Text.field-0)) (ap shape_of (sym c.get.ensures ∙ c.in-Text.is) ∙ shape_text c.in-Text.field-0)) c.texted.ensures
+
+pub returns-in-Array : goal.returns-in-Array
+returns-in-Array c =
+    by_node c.args.expr.now (scope_of c.args.scope) (array (trees_from (tree_of c.args.expr.now) 0)) c.arrayed.result
+    (all_items c.args.expr.now (trees_of (map tree_of c.in-Array.field-0)) (ap shape_of (sym c.get.ensures ∙ c.in-Array.is) ∙ shape_array c.in-Array.field-0)) c.arrayed.ensures
+
+pub returns-in-Pattern : goal.returns-in-Pattern
+returns-in-Pattern c =
+    by_node c.args.expr.now (scope_of c.args.scope) (pattern c.in-Pattern.text) c.patterned.result (ap shape_of (sym c.get.ensures ∙ c.in-Pattern.is) ∙ shape_pattern c.in-Pattern.text) c.patterned.ensures
+
+pub returns-in-Name : goal.returns-in-Name
+returns-in-Name c =
+    by_node c.args.expr.now (scope_of c.args.scope) (name c.in-Name.label) c.named.result (ap shape_of (sym c.get.ensures ∙ c.in-Name.is) ∙ shape_name c.in-Name.label) c.named.ensures
+
+pub returns-in-Rec : goal.returns-in-Rec
+returns-in-Rec c =
+    by_node c.args.expr.now (scope_of c.args.scope) (rec c.in-Rec.base (props_from (tree_of c.args.expr.now) 0)) c.recorded.result
+    (all_props c.args.expr.now c.in-Rec.base (props_of (map prop c.in-Rec.props)) (ap shape_of (sym c.get.ensures ∙ c.in-Rec.is) ∙ shape_rec c.in-Rec.base c.in-Rec.props)) c.recorded.ensures
 
 pub returns-in_default : goal.returns-in_default
 returns-in_default c = λ test. c.unwritten.ensures (tree_left test (scope_of c.args.scope) (tree_of c.args.expr.now)) test
