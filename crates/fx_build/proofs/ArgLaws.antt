@@ -17,7 +17,8 @@ use Rattle.fx_infer.specs.Arguments.{Elsewhere}
 use Rattle.fx_infer.specs.Ask.{Scope}
 use Rattle.fx_infer.specs.Parameters.{prop_names}
 use Rattle.fx_infer.specs.Typing.{at_form, has_args, has_props}
-use Rattle.fx_infer.specs.Words.{form_at, and_words, said, words_of_call}
+use Rattle.fx_schemes.specs.Written.{form_at}
+use Rattle.fx_infer.specs.Words.{and_words, said, words_of_call}
 use Rattle.fx_build.specs.Bound.{typed}
 use Rattle.fx_build.specs.Fit.{fits, keeps_at, CellFits, FieldFits, RecordFits}
 use Rattle.fx_plan.proofs.SlotLaws.{joined, look_joined}

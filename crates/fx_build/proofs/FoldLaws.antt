@@ -16,7 +16,8 @@ use Rattle.fx_schemes.specs.declared.form.Form.{Form}
 use Rattle.fx_ast.specs.Tree.{Tree, Props, no_props, more_props}
 use Rattle.fx_meaning.specs.Value.{Val, Slots, no_slots, more_slots}
 use Rattle.fx_infer.specs.Parameters.{prop_names}
-use Rattle.fx_infer.specs.Words.{and_words, form_at, said, with_first, words_at_label, words_of_call}
+use Rattle.fx_schemes.specs.Written.{form_at, with_first, words_at_label}
+use Rattle.fx_infer.specs.Words.{and_words, said, words_of_call}
 use Rattle.fx_plan.specs.Said.{and_says, said_in, value_says}
 use Rattle.fx_build.proofs.ArgLaws.{ArgIs, AreArgs, IsGiven, words_behind}
 use Rattle.fx_build.proofs.ParamLaws.{parts_of}

@@ -33,7 +33,8 @@ use Rattle.fx_infer.specs.Environment.{Env, scope}
 use Rattle.fx_infer.specs.Native.{in_package as has_in_package}
 use Rattle.fx_infer.specs.Parameters.{prop_names}
 use Rattle.fx_infer.specs.Typing.{at_form, callee, has, has_args, has_items, has_links, has_parts, has_pipe, has_pipes, has_shape}
-use Rattle.fx_infer.specs.Words.{IsInForce, and_words, form_at, words_of_call}
+use Rattle.fx_schemes.specs.Written.{form_at}
+use Rattle.fx_infer.specs.Words.{IsInForce, and_words, words_of_call}
 use Rattle.fx_build.specs.Bound.{find, Literal, literal, no_literal, literal_of, literal_in}
 use Rattle.fx_build.specs.Fit.{fits, holds, each_fits, keeps_at, IsMet, IsUnbound, RecordFits}
 use Rattle.fx_build.specs.Safe.{IsSafe}

@@ -21,7 +21,7 @@ use Rattle.fx_schemes.specs.declared.list.Builtin.{Builtin}
 use Rattle.fx_schemes.specs.declared.list.Builtin.TheVariants as b
 use Rattle.fx_meaning.specs.Native.{all_given, all_listed, due_labels, due_words, free_labels, free_words}
 use Rattle.fx_meaning.specs.Value.{Val, array, rec, native, Slots, no_slots, more_slots, look, is_there}
-use Rattle.fx_infer.specs.Words.{one_word, many_words, new_words, words_at_label}
+use Rattle.fx_schemes.specs.Written.{one_word, many_words, new_words, words_at_label}
 use Rattle.fx_build.specs.Fit.{with_input}
 use Rattle.fx_plan.specs.Said.{and_says, said_in, value_says, text_in, item_texts, field_texts, labels_of, fold_name}
 use Rattle.fx_build.proofs.NativeLaws.{further_absent, is_further, is_pipe, labels, pipe_is_further, pipe_label_is, pipes_are_further, unpiped}

@@ -23,7 +23,8 @@ use Rattle.fx_infer.specs.Environment.{Env, scope}
 use Rattle.fx_infer.specs.Native.{native}
 use Rattle.fx_infer.specs.Parameters.{prop_names}
 use Rattle.fx_infer.specs.Typing.{has}
-use Rattle.fx_infer.specs.Words.{plain_text, with_first, value_texts, words_at_label, one_word, many_words, new_words, said, IsInForce}
+use Rattle.fx_schemes.specs.Written.{with_first, words_at_label, one_word, many_words, new_words}
+use Rattle.fx_infer.specs.Words.{plain_text, value_texts, said, IsInForce}
 use Rattle.fx_infer.specs.Words as written
 use Rattle.fx_build.specs.Bound.{Bound, unbound, typed, defined, packaged, find, Literal, literal, no_literal, literal_of}
 use Rattle.fx_build.specs.Fit.{IsUnbound, keeps_at}

@@ -36,7 +36,8 @@ use Rattle.fx_infer.specs.Infers.{Infers, HasNone}
 use Rattle.fx_infer.specs.Lists.{entry_names, labels_in}
 use Rattle.fx_infer.specs.Names.{env_under, NamesBelow, TypeOf}
 use Rattle.fx_infer.specs.Typing.{at_form, has, has_args}
-use Rattle.fx_infer.specs.Words.{form_at, IsInForce}
+use Rattle.fx_schemes.specs.Written.{form_at}
+use Rattle.fx_infer.specs.Words.{IsInForce}
 use Rattle.fx_infer.proofs.DivideLaws.{new_label}
 use Rattle.fx_infer.proofs.EntryLaws.{or_field, field_by, entry_more, entry_off}
 use Rattle.fx_infer.proofs.InfersLaws.{Reads, both, none_second, same, seen_as}

@@ -30,7 +30,8 @@ use Rattle.fx_infer.specs.Parameters.{prop_names}
 use Rattle.fx_infer.specs.Ask.{Ask, Scope}
 use Rattle.fx_infer.specs.Callees.{is_literal}
 use Rattle.fx_infer.specs.Typing.{has, has_pipe, callee}
-use Rattle.fx_infer.specs.Words.{IsInForce, plain_text, with_first, item_texts, value_texts, many_words, new_words, words_at_label, said, and_words, words_of_call}
+use Rattle.fx_schemes.specs.Written.{with_first, many_words, new_words, words_at_label}
+use Rattle.fx_infer.specs.Words.{IsInForce, plain_text, item_texts, value_texts, said, and_words, words_of_call}
 
 -- an expression by its node
 

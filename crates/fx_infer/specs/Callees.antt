@@ -35,7 +35,8 @@ use Rattle.fx_infer.specs.Parameters.{prop_names}
 use Rattle.fx_infer.specs.Typing.{at_form, has_args, has_pipe, callee}
 use Rattle.fx_infer.specs.Rules.{Gives}
 use Rattle.fx_infer.specs.Uses.{IsTypedLine}
-use Rattle.fx_infer.specs.Words.{form_at, words_of_call, IsInForce}
+use Rattle.fx_schemes.specs.Written.{form_at}
+use Rattle.fx_infer.specs.Words.{words_of_call, IsInForce}
 
 -- the labels of arguments
 abbrev pub arg_names : List Prop → List Label

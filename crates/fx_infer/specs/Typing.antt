@@ -17,7 +17,8 @@ use Rattle.fx_infer.specs.Ask.{type_is, Answers, Scope, valued, of_type, with_na
 use Rattle.fx_infer.specs.Native.{in_package}
 use Rattle.fx_infer.specs.Operators.{Infixed, Prefixed}
 use Rattle.fx_infer.specs.Parameters.{prop_names, AreDeclared, literal, with_params}
-use Rattle.fx_infer.specs.Words.{form_at, IsInForce}
+use Rattle.fx_schemes.specs.Written.{form_at}
+use Rattle.fx_infer.specs.Words.{IsInForce}
 
 -- at a label of a call: an argument that has a type, or one that says words
 abbrev pub at_form : Option Form → Type 0 → (Form → Type 0) → Type 0

@@ -6,7 +6,7 @@ use Rattle.fx_schemes.specs.declared.form.Form.TheVariants as form
 use Rattle.fx_schemes.specs.declared.given.LabelWords.{LabelWords}
 use Rattle.fx_schemes.specs.declared.list.Builtin.{Builtin}
 use Rattle.fx_schemes.specs.Given.{Given}
-use Rattle.fx_schemes.specs.Signature.{form_of}
+use Rattle.fx_schemes.specs.Written.{form_at, many_words, new_words, one_word, with_first, words_at_label}
 use Rattle.fx_ast.specs.Tree.{Tree, tree, text, name, array, rec, Trees, no_trees, more_trees, no_parts, piece, Props, no_props, more_props}
 use Rattle.fx_infer.specs.Ask.{builtin_is, Scope}
 use Rattle.fx_infer.specs.Parameters.{prop_names}
@@ -15,10 +15,6 @@ use Rattle.fx_infer.specs.Parameters.{prop_names}
 abbrev pub plain_text : Tree → Option Label
 plain_text (tree place (text (piece s no_parts))) = Some s
 plain_text _ = None
-
-abbrev pub with_first : {A : Type 0} → Option A → Option (List A) → Option (List A)
-with_first (Some x) (Some xs) = Some (x ∷ xs)
-with_first _ _ = None
 
 -- plain texts alone
 
@@ -30,21 +26,6 @@ abbrev pub value_texts : Props → Option (List Label)
 value_texts no_props = Some []
 value_texts (more_props x e ps) = with_first (plain_text e) (value_texts ps)
 
-abbrev pub words_at_label : Label → List Label → List Label → LabelWords
-words_at_label x ws ns = record { label = x; words = ws; news = ns }
-
-abbrev pub one_word : Label → Option Label → Option LabelWords
-one_word x None = None
-one_word x (Some s) = Some (words_at_label x (s ∷ []) [])
-
-abbrev pub many_words : Label → Option (List Label) → Option LabelWords
-many_words x None = None
-many_words x (Some ws) = Some (words_at_label x ws [])
-
-abbrev pub new_words : Label → List Label → Option (List Label) → Option LabelWords
-new_words x olds None = None
-new_words x olds (Some news) = Some (words_at_label x olds news)
-
 -- what an argument says at a label, None where it isn't written in the form
 abbrev pub said : Form → Label → Tree → Option LabelWords
 said form.Text x e = one_word x (plain_text e)
@@ -53,11 +34,6 @@ said form.Texts x (tree place (array es)) = many_words x (item_texts es)
 said form.Renames x (tree place (rec None ps)) = new_words x (prop_names ps) (value_texts ps)
 said form.Name x (tree place (name y)) = Some (words_at_label x (y ∷ []) [])
 said _ x e = None
-
--- the form of the label argument x; only built-ins have label arguments
-abbrev pub form_at : Option Builtin → Label → Option Form
-form_at None x = None
-form_at (Some b) x = form_of b x
 
 abbrev pub and_words : Option Form → Label → Tree → Option Given → Option Given
 and_words None x e rest = rest

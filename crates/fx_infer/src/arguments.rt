@@ -9,7 +9,8 @@ ghost use Rattle.fx_ast.specs.Shape.{tree_of};
 ghost use Rattle.fx_infer.specs.Callees.{arg_names, FindsArg, IsIdOf, Tells, WithEntry};
 ghost use Rattle.fx_infer.specs.Environment.{scope};
 ghost use Rattle.fx_infer.specs.Names.{env_under};
-ghost use Rattle.fx_infer.specs.Words.{form_at, IsInForce};
+ghost use Rattle.fx_schemes.specs.Written.{form_at};
+ghost use Rattle.fx_infer.specs.Words.{IsInForce};
 
 use crate::ask::Inferred;
 use crate::callee::{Callee, callee_of_name};

@@ -9,7 +9,8 @@ ghost use Rattle.fx_schemes.specs.Names.{IsId};
 ghost use Rattle.fx_ast.specs.Shape.{tree_of, trees_of, props_of, prop, part, parts_of};
 ghost use Rattle.fx_ast.specs.Tree.{tree, text, rec};
 ghost use Rattle.fx_infer.specs.Parameters.{prop_names};
-ghost use Rattle.fx_infer.specs.Words.{plain_text, item_texts, value_texts, words_at_label, one_word, new_words, said, words_of_call};
+ghost use Rattle.fx_schemes.specs.Written.{words_at_label, one_word, new_words};
+ghost use Rattle.fx_infer.specs.Words.{plain_text, item_texts, value_texts, said, words_of_call};
 
 use fx_ast::{Expr, Node, Part, Prop};
 use fx_base::{List, Memory, Text};

@@ -11,7 +11,7 @@ use Rattle.fx_meaning.specs.declared.native.Native.{Native}
 use Rattle.fx_meaning.specs.declared.native.Native.TheVariants as n
 use Rattle.fx_meaning.specs.declared.stream.StreamFn.TheVariants as s
 use Rattle.fx_meaning.specs.Value.{Val, cell, array, rec, native, Vals, no_vals, more_vals, Slots, no_slots, more_slots}
-use Rattle.fx_infer.specs.Words.{form_at, with_first, one_word, many_words, new_words}
+use Rattle.fx_schemes.specs.Written.{form_at, with_first, one_word, many_words, new_words}
 
 abbrev pub text_in : Val → Option Label
 text_in (cell (scalar.Text text)) = Some text

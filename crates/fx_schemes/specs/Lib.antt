@@ -6,3 +6,4 @@ pub mod Names
 pub mod Plan
 pub mod Scheme
 pub mod Signature
+pub mod Written

@@ -1,6 +1,6 @@
 use Rattle.std.proofs.Common.{[], ◌∙◌, ◌+◌, ap, sym, refl, drop, Some}
 use Rattle.std.specs.Option.{option_copied}
-use Rattle.fx_infer.specs.Words.{with_first}
+use Rattle.fx_schemes.specs.Written.{with_first}
 use Rattle.fx_infer.proofs.WrittenLaws.{behind, texts_in, read_start, read_more, read_none, read_all}
 use Rattle.fx_infer.proofs.words.item_texts.Goals as goal
 

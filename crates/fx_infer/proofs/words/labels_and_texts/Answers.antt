@@ -1,5 +1,5 @@
 use Rattle.std.proofs.Common.{◌∙◌, ap, sym}
-use Rattle.fx_infer.specs.Words.{new_words}
+use Rattle.fx_schemes.specs.Written.{new_words}
 use Rattle.fx_infer.proofs.WrittenLaws.{labels_of, new_said}
 use Rattle.fx_infer.proofs.words.labels_and_texts.Goals as goal
 

@@ -1,6 +1,7 @@
 use Rattle.std.proofs.Common.{[], ◌∙◌, ◌+◌, ap, sym, refl, drop, Some}
 use Rattle.std.specs.Option.{option_copied}
-use Rattle.fx_infer.specs.Words.{plain_text, with_first}
+use Rattle.fx_schemes.specs.Written.{with_first}
+use Rattle.fx_infer.specs.Words.{plain_text}
 use Rattle.fx_infer.proofs.WrittenLaws.{behind, news_in, value_at, read_start, read_more, read_none, read_all}
 use Rattle.fx_infer.proofs.words.value_texts.Goals as goal
 

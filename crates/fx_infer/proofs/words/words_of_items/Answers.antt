@@ -1,5 +1,5 @@
 use Rattle.std.proofs.Common.{◌∙◌, ap, sym, None}
-use Rattle.fx_infer.specs.Words.{many_words}
+use Rattle.fx_schemes.specs.Written.{many_words}
 use Rattle.fx_infer.proofs.WrittenLaws.{no_array, items_said, many_said}
 use Rattle.fx_infer.proofs.words.words_of_items.Goals as goal
 
