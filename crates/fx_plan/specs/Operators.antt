@@ -1,12 +1,13 @@
 -- What operators make of tables: their arguments, their words, and the tables.
-use Rattle.std.specs.Prelude.{ℕ, ℤ, pos, int_le, Bool, List, [], ◌∷◌, Option, None, Some, codes, if◌then◌else◌, false}
+use Rattle.std.specs.Prelude.{ℕ, ◌+◌, ℤ, pos, int_le, Bool, List, [], ◌∷◌, length, Option, None, Some, codes, if◌then◌else◌, false, true}
 use Rattle.std.specs.FinMap.{empty}
 use Rattle.fx_base.specs.Text.{same_text}
 use Rattle.fx_base.specs.declared.fault.FaultKind.{FaultKind}
-use Rattle.fx_base.specs.declared.fault.FaultKind.TheVariants.{BadCount, NoBucket, NullArgument, TimeRange}
+use Rattle.fx_base.specs.declared.fault.FaultKind.TheVariants.{BadCount, BadWindow, NoBucket, NullArgument, TimeRange}
 use Rattle.fx_base.specs.declared.place.Place.{Place}
 use Rattle.fx_time.specs.Spans.{span_after}
-use Rattle.fx_value.specs.Ends.{End, Faults, Stuck}
+use Rattle.fx_time.specs.declared.span.Span.{Span}
+use Rattle.fx_value.specs.Ends.{End, Gives, Faults, Stuck}
 use Rattle.fx_value.specs.declared.scalar.Kind.{Kind}
 use Rattle.fx_value.specs.declared.scalar.Kind.TheVariants as kind
 use Rattle.fx_value.specs.declared.scalar.Scalar.{Scalar}
@@ -15,8 +16,10 @@ use Rattle.fx_types.specs.Ground.{listed}
 use Rattle.fx_types.specs.Term.{Label}
 use Rattle.fx_data.specs.declared.table.Table.{Table}
 use Rattle.fx_agg.specs.Aggregate.{aggregated}
+use Rattle.fx_agg.specs.Distinct.{distinguished}
 use Rattle.fx_agg.specs.Reduce.{reduced}
-use Rattle.fx_agg.specs.declared.agg.Agg.TheVariants.{First, Last, Max, Min}
+use Rattle.fx_agg.specs.declared.agg.Agg.{Agg}
+use Rattle.fx_agg.specs.declared.agg.Agg.TheVariants.{Count, First, Last, Max, Min, Spread, Sum}
 use Rattle.fx_group.specs.Filter.{filtered, table_if}
 use Rattle.fx_group.specs.Group.{grouped_by, grouped_except}
 use Rattle.fx_group.specs.Map.{mapped}
@@ -26,17 +29,23 @@ use Rattle.fx_join.specs.Joined.{joined}
 use Rattle.fx_join.specs.SameTime.{joined_by_time}
 use Rattle.fx_join.specs.declared.side.Side.{Side}
 use Rattle.fx_join.specs.declared.side.Side.TheVariants.{Full, Inner, Left, Right}
+use Rattle.fx_pivot.specs.Pivot.{pivoted}
 use Rattle.fx_shape.specs.Columns.{column_doubled, column_filled, column_set}
 use Rattle.fx_shape.specs.Keep.{columns_dropped, columns_kept}
 use Rattle.fx_shape.specs.Rename.{columns_renamed}
+use Rattle.fx_shape.specs.Running.{cumulated, differenced, passed}
 use Rattle.fx_shape.specs.Sort.{rows_sorted}
 use Rattle.fx_shape.specs.Part.{limited, tailed}
+use Rattle.fx_window.specs.Aggregated.{window_aggregated}
+use Rattle.fx_window.specs.Cut.{cut_size}
+use Rattle.fx_window.specs.Lengths.{is_length}
+use Rattle.fx_window.specs.Window.{windowed}
 use Rattle.fx_schemes.specs.declared.given.LabelWords.{LabelWords}
 use Rattle.fx_schemes.specs.Given.{Given, is_one_of, list_at, text_at as word_at, words_at}
 use Rattle.fx_meaning.specs.declared.stream.StreamFn.{StreamFn}
 use Rattle.fx_meaning.specs.declared.stream.StreamFn.TheVariants as s
 use Rattle.fx_meaning.specs.Ends.{◌>>=◌, fault_at, found, pure}
-use Rattle.fx_meaning.specs.Forms.{argument, cell_of, each, fields_in, items_of, val_list}
+use Rattle.fx_meaning.specs.Forms.{argument, cell_of, each, fields_in, items_of, span_in, val_list}
 use Rattle.fx_meaning.specs.Meaning.{Tests}
 use Rattle.fx_meaning.specs.Rows.{Row, row_from, row_meaning}
 use Rattle.fx_meaning.specs.Value.{Val, cell, span, Slots, look}
@@ -86,15 +95,27 @@ abbrev pub count_or_none : Place → Option Val → End ℤ
 count_or_none place None = pure (pos 0)
 count_or_none place (Some v) = count_at place v
 
--- a Boolean, which is false where it isn't given
+-- a Boolean, and what it is where it isn't given
 abbrev pub flag_at : Place → Val → End Bool
 flag_at place (cell (scalar.Bool b)) = pure b
 flag_at place (cell scalar.Null) = no_argument place NullArgument
 flag_at place _ = Stuck
 
+abbrev pub flag_or : Bool → Place → Option Val → End Bool
+flag_or default place None = pure default
+flag_or default place (Some v) = flag_at place v
+
 abbrev pub flag_or_false : Place → Option Val → End Bool
-flag_or_false place None = pure false
-flag_or_false place (Some v) = flag_at place v
+flag_or_false = flag_or false
+
+-- a duration, and what it is where it isn't given
+abbrev pub span_or : Span → Option Val → End Span
+span_or default None = pure default
+span_or default (Some v) = span_in v
+
+-- a length of windows
+abbrev pub length_at : Place → Val → End Span
+length_at place v = span_in v >>= (λ d. if is_length d then pure d else no_argument place BadWindow)
 
 -- ---- operators
 
@@ -183,6 +204,12 @@ at_column made w tables = do
   column ← found (word_at w (codes "column") (Some (codes "_value")))
   made column tables
 
+-- what works on the one column that is listed
+abbrev pub at_listed : (Label → List Table → End (List Table)) → Given → List Table → End (List Table)
+at_listed made w tables = do
+  column ← found (word_at w (codes "columns") (Some (codes "_value")))
+  made column tables
+
 abbrev pub doubled_in : Given → List Table → End (List Table)
 doubled_in w tables = do
   column ← found (word_at w (codes "column") None)
@@ -208,6 +235,70 @@ renamed_by (Some g) tables = pure (columns_renamed g.words g.news tables)
 
 abbrev pub renamed_in : Given → List Table → End (List Table)
 renamed_in w tables = renamed_by (words_at w (codes "columns")) tables
+
+abbrev pub second : Span
+second = record { months = pos 0; nanos = pos 1_000_000_000 }
+
+abbrev pub passed_in : Given → Place → Slots → List Table → End (List Table)
+passed_in w place args tables = do
+  unit ← span_or second (look (codes "unit") args)
+  time ← found (word_at w (codes "timeColumn") (Some (codes "_time")))
+  name ← found (word_at w (codes "columnName") (Some (codes "elapsed")))
+  passed place unit time name tables
+
+abbrev pub pivoted_in : Given → Place → List Table → End (List Table)
+pivoted_in w place tables = do
+  rows ← found (list_at w (codes "rowKey") None)
+  columns ← found (list_at w (codes "columnKey") None)
+  value ← found (word_at w (codes "valueColumn") None)
+  pivoted place rows columns value tables
+
+-- ---- windows, which cost ticks of their own
+
+abbrev pub row_count : List Table → ℕ
+row_count [] = 0
+row_count (t ∷ ts) = length t.rows + row_count ts
+
+-- one for each row that is made
+abbrev pub in_windows : Place → Slots → List Table → End (List Table)
+in_windows place args tables = do
+  v ← argument (codes "every") args
+  every ← span_in v
+  period ← span_or every (look (codes "period") args)
+  made ← windowed place every period tables
+  Gives made (row_count made)
+
+-- the words of `fn`
+abbrev pub aggregate_among : Label → List (Label × Agg) → Option Agg
+aggregate_among name [] = None
+aggregate_among name ((label, which) ∷ others) = if same_text name label then Some which else aggregate_among name others
+
+abbrev pub aggregate_named : Label → Option Agg
+aggregate_named name =
+    aggregate_among name
+    ((codes "count", Count) ∷ (codes "first", First) ∷ (codes "last", Last) ∷ (codes "max", Max) ∷ (codes "min", Min) ∷ (codes "spread", Spread) ∷ (codes "sum", Sum) ∷ [])
+
+-- how many windows tables are cut into
+abbrev pub window_count : Span → Bool → List Table → End ℕ
+window_count every all [] = pure 0
+window_count every all (t ∷ ts) = do
+  n ← cut_size every all t
+  m ← window_count every all ts
+  pure (n + m)
+
+-- one for each window, before the aggregate is made of any
+abbrev pub windows_counted : Span → Bool → List Table → End ℕ
+windows_counted every all tables = window_count every all tables >>= (λ n. Gives n n)
+
+abbrev pub by_windows : Given → Place → Slots → List Table → End (List Table)
+by_windows w place args tables = do
+  v ← argument (codes "every") args
+  every ← length_at place v
+  name ← found (word_at w (codes "fn") None)
+  which ← found (aggregate_named name)
+  all ← flag_or true place (look (codes "createEmpty") args)
+  windows ← windows_counted every all tables
+  window_aggregated place (aggregated place which (codes "_value")) every all tables
 
 module _ (test : Tests) (stored : Stored) where
   abbrev pub of_wanted_rows : Given → Slots → List Table → ℕ → End (List Table)
@@ -238,7 +329,7 @@ module _ (test : Tests) (stored : Stored) where
     joined_by_time (row_meaning test both) side ls rs limit
 
   -- what an operator makes of the tables of its inputs, with the words that its arguments say. It calls functions of rows
-  -- under the limit. Those that aren't listed come later
+  -- under the limit. A yield makes no tables: it shows those of a stream
   abbrev pub operator : StreamFn → Place → Given → Slots → ℕ → List (List Table) → End (List Table)
   operator s.From place w args limit = of_none (from_bucket stored kind.Int place args)
   operator s.Texts place w args limit = of_none (from_bucket stored kind.Text place args)
@@ -268,4 +359,14 @@ module _ (test : Tests) (stored : Stored) where
   operator s.JoinTime place w args limit = of_two (of_times w args limit)
   operator s.Sort place w args limit = of_one (sorted_in w place args)
   operator s.Rename place w args limit = of_one (renamed_in w)
-  operator _ place w args limit = λ received. Stuck
+  operator s.Window place w args limit = of_one (in_windows place args)
+  operator s.AggregateWindow place w args limit = of_one (by_windows w place args)
+  operator s.Count place w args limit = of_one (at_column (aggregated place Count) w)
+  operator s.Sum place w args limit = of_one (at_column (aggregated place Sum) w)
+  operator s.Spread place w args limit = of_one (at_column (aggregated place Spread) w)
+  operator s.Distinct place w args limit = of_one (at_column (λ column tables. pure (distinguished column tables)) w)
+  operator s.Difference place w args limit = of_one (at_listed (differenced place) w)
+  operator s.CumulativeSum place w args limit = of_one (at_listed (cumulated place) w)
+  operator s.Elapsed place w args limit = of_one (passed_in w place args)
+  operator s.Pivot place w args limit = of_one (pivoted_in w place)
+  operator s.Yield place w args limit = λ received. Stuck
