@@ -183,7 +183,7 @@ kind_null c (inr (inr (inr (inl e)))) = ap (λ t. is_cell (column_kind t) scalar
 kind_null c (inr (inr (inr (inr e)))) = absurd (false≢true e.0)
 
 -- a column of its own kind
-again_fits : (r : GroundRow) (row : Row) (x : Label) (c : Ground) (a : Scalar) → r x ≡ g_is c → RowFits r row → IsTrue (is_cell (column_kind c) a) → RowFits r (insert row x a)
+pub again_fits : (r : GroundRow) (row : Row) (x : Label) (c : Ground) (a : Scalar) → r x ≡ g_is c → RowFits r row → IsTrue (is_cell (column_kind c) a) → RowFits r (insert row x a)
 again_fits r row x c a has fit is l = subst (λ o. IsTrue (is_column_of (r l) o)) (sym (get_inserted row x a l)) (at (same_text l x) refl)
   where
     at : (d : Bool) → d ≡ same_text l x → IsTrue (is_column_of (r l) (if d then Some a else get row l))

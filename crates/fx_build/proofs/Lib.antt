@@ -25,6 +25,7 @@ pub mod RowCalls
 pub mod RowLaws
 pub mod RunLaws
 pub mod SafeLaws
+pub mod RunningCalls
 pub mod ScalarCalls
 pub mod SlotLaws
 pub mod SortCalls

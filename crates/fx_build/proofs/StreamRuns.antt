@@ -33,6 +33,7 @@ use Rattle.fx_build.proofs.ColumnCalls.{drop_safe, duplicate_safe, fill_safe, gr
 use Rattle.fx_build.proofs.JoinCalls.{full_safe, inner_safe, left_safe, right_safe, time_safe}
 use Rattle.fx_build.proofs.OperatorCalls.{AreTables, HaveTables, OperatorIsSafe, array_safe, bools_safe, filter_safe, from_safe, map_safe, range_safe, texts_safe}
 use Rattle.fx_build.proofs.RenameCalls.{rename_safe}
+use Rattle.fx_build.proofs.RunningCalls.{cumulative_safe, difference_safe, elapsed_safe}
 use Rattle.fx_build.proofs.SafeLaws.{safe_as, safe_cut, safe_later, safe_then}
 use Rattle.fx_build.proofs.SortCalls.{sort_safe}
 use Rattle.fx_build.proofs.StreamLines.{AreStreams, HasInputs, MakesStream, stream_lined}
@@ -82,6 +83,9 @@ module _ (test : Tests) (stored : Stored) (lawful : AreLawful stored) where
   operator_safe s.JoinRight listed = right_safe test stored
   operator_safe s.JoinFull listed = full_safe test stored
   operator_safe s.JoinTime listed = time_safe test stored
+  operator_safe s.Difference listed = difference_safe test stored
+  operator_safe s.CumulativeSum listed = cumulative_safe test stored
+  operator_safe s.Elapsed listed = elapsed_safe test stored
   operator_safe _ listed = absurd (false≢true listed)
 
   counted_safe : (g : StreamFn) (r : GroundRow) (received : List (List Table)) (made : End (List Table)) → IsSafe (TablesFit r) made → IsSafe (TablesFit r) (counted g received made)

@@ -93,6 +93,9 @@ is_listed s.JoinLeft = true
 is_listed s.JoinRight = true
 is_listed s.JoinFull = true
 is_listed s.JoinTime = true
+is_listed s.Difference = true
+is_listed s.CumulativeSum = true
+is_listed s.Elapsed = true
 is_listed _ = false
 
 -- the stream is made of these alone
