@@ -1,6 +1,7 @@
 -- Columns that are set.
 use Rattle.std.specs.Prelude.{ℕ, Bool, true, false, List, Option, None, Some, if◌then◌else◌}
-use Rattle.std.specs.FinMap.{get, insert, remove}
+use Rattle.std.specs.FinMap.{FinMap, get, insert, remove}
+use Rattle.fx_base.specs.Text.{text_cmp}
 use Rattle.fx_value.specs.declared.scalar.Scalar.{Scalar}
 use Rattle.fx_value.specs.declared.scalar.Scalar.TheVariants.{Null}
 use Rattle.fx_data.specs.declared.table.Table.{Table}
@@ -24,11 +25,14 @@ is_missing (Some value) = false
 unfoldable pub column_filled : Label → Scalar → List Table → List Table
 column_filled label value = all_changed (λ row. if is_missing (get row label) then insert row label value else row)
 
--- a column as another has it, which may be not at all
-abbrev pub as_there : Option Scalar → Label → Row → Row
-as_there None label row = remove row label
-as_there (Some value) label row = insert row label value
+-- a label as another one is, which may be not at all
+abbrev pub as_there : {A : Type 0} → Option A → Label → FinMap text_cmp A → FinMap text_cmp A
+as_there None label map = remove map label
+as_there (Some value) label map = insert map label value
+
+abbrev pub doubled : {A : Type 0} → Label → Label → FinMap text_cmp A → FinMap text_cmp A
+doubled label copy map = as_there (get map label) copy map
 
 -- `duplicate`: the column `copy` is as the other
 unfoldable pub column_doubled : Label → Label → List Table → List Table
-column_doubled label copy = all_changed (λ row. as_there (get row label) copy row)
+column_doubled label copy = all_changed (doubled label copy)

@@ -2,6 +2,7 @@ pub mod Changed
 pub mod Columns
 pub mod Content
 pub mod Cut
+pub mod Heads
 pub mod Keep
 pub mod Outcome
 pub mod Part

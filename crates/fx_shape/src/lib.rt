@@ -1,6 +1,7 @@
 //! Operators on columns and rows of tables.
 #![tactic(auto)]
 
+mod doubling;
 mod giving;
 mod leaving;
 mod part;
@@ -8,6 +9,7 @@ mod run;
 mod running;
 mod sorting;
 
+pub use doubling::duplicate;
 pub use giving::{fill, set};
 pub use leaving::drop_columns;
 pub use part::{limit, tail};
