@@ -20,5 +20,5 @@ pub use natives::{cell_of, cells_in, contains_of, convert_of, items_of, length_o
 pub use operators::{binary_values, decides, logic, prefixed};
 pub use scalars::scalar_call;
 pub use stop::Stop;
-pub use streams::stream_call;
+pub use streams::{stream_call, without};
 pub use value::{Closure, Shown, Slot, StreamCall, Value};

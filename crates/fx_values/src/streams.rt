@@ -137,7 +137,7 @@ fn further_args(alloc: Global, which: StreamFn, args: &[Slot]) -> Result<List<Sl
 }
 
 /// The slots that have none of the labels.
-fn without(alloc: Global, labels: &[&str], slots: &[Slot]) -> Result<List<Slot>, Memory>
+pub fn without(alloc: Global, labels: &[&str], slots: &[Slot]) -> Result<List<Slot>, Memory>
     ensures { IfOk result (λ kept. slots_of (map slot kept) ≡ keep (λ x. not (listed x (map (λ label. label.now) labels.now))) (slots_of (map slot slots.now))) }
 {
     let mut kept = List::empty(alloc);
