@@ -11,8 +11,6 @@ use Rattle.std.specs.List.Sorted.{IsStrictlySortedBy}
 use Rattle.std.specs.Ordering.{eq_by_cmp, is_eq}
 use Rattle.std.proofs.lemmas.Cmp.{nat_list_eq_equiv}
 use Rattle.fx_base.specs.Text.{same_text, text_cmp}
-use Rattle.fx_value.specs.Change.{all_changed}
-use Rattle.fx_value.specs.declared.change.Change.TheVariants.{Remove}
 use Rattle.fx_value.specs.declared.scalar.Scalar.{Scalar}
 use Rattle.fx_value.proofs.Rows.{text_same}
 use Rattle.fx_data.specs.declared.key.KeyEntry.{KeyEntry}
@@ -23,7 +21,7 @@ use Rattle.fx_data.specs.Table.{HasKey, IsLawfulTable}
 use Rattle.fx_group.specs.Answer.{Row}
 use Rattle.fx_group.specs.Group.{is_listed}
 use Rattle.fx_shape.specs.Columns.{Label}
-use Rattle.fx_shape.specs.Keep.{table_left, columns_left, columns_dropped}
+use Rattle.fx_shape.specs.Keep.{columns_dropped, columns_kept, columns_left, table_left}
 
 -- labels that tie are the same
 
@@ -38,28 +36,6 @@ tied a b = by (eq_by_cmp text_cmp a b) (same_text a b) refl refl
 
 get_left : (stays : Label → Bool) (row : Row) (q : Label) → fin.get (fin.retain_keys row stays) q ≡ cond (stays q) (fin.get row q) None
 get_left stays row q = fin.get-retain_keys row stays q (λ x tie. ap stays (sym (text_same q x tie)))
-
--- ---- rows
-
-without_step : (c d : Bool) (o : Rattle.std.specs.Prelude.Option Scalar) → cond (not d) (cond c None o) None ≡ cond (not (c || d)) o None
-without_step true true o = refl
-without_step true false o = refl
-without_step false d o = refl
-
-get_without : (columns : List Label) (row : Row) (q : Label) → fin.get (all_changed (map Remove columns) row) q ≡ cond (not (is_listed columns q)) (fin.get row q) None
-get_without [] row q = refl
-get_without (c ∷ columns) row q =
-    get_without columns (fin.remove row c) q
-    ∙ ap (λ o. cond (not (is_listed columns q)) o None) (fin.get-remove nat_list_cmp_total row c q ∙ ap (λ b. cond b None (fin.get row q)) (tied q c))
-    ∙ without_step (same_text q c) (is_listed columns q) (fin.get row q)
-
-row_without : (columns : List Label) (row : Row) → all_changed (map Remove columns) row ≡ fin.retain_keys row (λ label. not (is_listed columns label))
-row_without columns row =
-    fin.same_map nat_list_cmp_total text_same _ _ (λ q. get_without columns row q ∙ sym (get_left (λ label. not (is_listed columns label)) row q))
-
-pub rows_without : (columns : List Label) (rows : List Row) → map (all_changed (map Remove columns)) rows ≡ map (λ row. fin.retain_keys row (λ label. not (is_listed columns label))) rows
-rows_without columns [] = refl
-rows_without columns (row ∷ rows) = (λ i. row_without columns row i ∷ rows_without columns rows i)
 
 -- ---- lawful tables
 
@@ -107,3 +83,8 @@ pub dropped_is : (columns : List Label) (tables : List Table) (runs : FinMap key
     → map table_of (fin.entries runs) ≡ columns_dropped columns tables
 unfolding columns_dropped
 dropped_is columns tables runs is = left_is (λ label. not (is_listed columns label)) tables runs is
+
+pub kept_is : (columns : List Label) (tables : List Table) (runs : FinMap key_cmp (List Row)) → runs ≡ grouped (map (table_left (is_listed columns)) tables)
+    → map table_of (fin.entries runs) ≡ columns_kept columns tables
+unfolding columns_kept
+kept_is columns tables runs is = left_is (is_listed columns) tables runs is

@@ -4,9 +4,11 @@ pub mod Content
 pub mod Cut
 pub mod Heads
 pub mod Keep
+pub mod Naming
 pub mod Outcome
 pub mod Part
 pub mod Ranked
+pub mod Relabelled
 pub mod Rename
 pub mod Run
 pub mod Running

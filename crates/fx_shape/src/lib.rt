@@ -4,6 +4,7 @@
 mod doubling;
 mod giving;
 mod leaving;
+mod naming;
 mod part;
 mod run;
 mod running;
@@ -11,7 +12,7 @@ mod sorting;
 
 pub use doubling::duplicate;
 pub use giving::{fill, set};
-pub use leaving::drop_columns;
+pub use leaving::{drop_columns, keep};
 pub use part::{limit, tail};
 pub use running::{cumulative_sum, difference, elapsed};
 pub use sorting::sort_rows;
