@@ -28,8 +28,7 @@ use Rattle.fx_window.specs.Lengths.{are_lengths}
 use Rattle.fx_window.specs.Numbers.{numbers}
 use Rattle.fx_window.specs.Standing.{placed_by, placed_row, placed_rows, stand_by, stand_of, time_of}
 use Rattle.fx_window.specs.Window.{copies, copy_between, copy_in, windowed, windowed_table, windowed_tables}
-use Rattle.fx_window.specs.declared.standing.Placed.{Placed}
-use Rattle.fx_window.specs.declared.standing.Stand.{Stand}
+use Rattle.fx_window.specs.Hidden.{Placed, Stand}
 use Rattle.fx_schemes.specs.Builtins.{IsLine}
 use Rattle.fx_schemes.specs.Line.{HasBounds, from_tables, parameters, put}
 use Rattle.fx_meaning.specs.declared.stream.StreamFn.TheVariants as s
@@ -73,7 +72,7 @@ abbrev pub IsPlaced : GroundRow → Placed → Type 0
 IsPlaced r p = RowFits r p.row × IsStand (Some p.at)
 
 stand_is : (time low high : Option ℤ) → Within time → Within low → Within high → IsStand (stand_by time low high)
-stand_is (Some time) (Some low) (Some high) h k l = (h, (k, l))
+stand_is (Some time) (Some low) (Some high) h k l = (h, k, l)
 stand_is None low high h k l = tt
 stand_is (Some time) None high h k l = tt
 stand_is (Some time) (Some low) None h k l = tt
