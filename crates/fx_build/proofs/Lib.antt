@@ -37,6 +37,7 @@ pub mod StreamLines
 pub mod StreamRuns
 pub mod TableLaws
 pub mod TakenLaws
+pub mod WindowCalls
 pub mod WordLaws
 pub mod Worked
 pub mod ListedRuns

@@ -37,6 +37,7 @@ use Rattle.fx_build.proofs.RunningCalls.{cumulative_safe, difference_safe, elaps
 use Rattle.fx_build.proofs.SafeLaws.{safe_as, safe_cut, safe_later, safe_then}
 use Rattle.fx_build.proofs.SortCalls.{sort_safe}
 use Rattle.fx_build.proofs.StreamLines.{AreStreams, HasInputs, MakesStream, stream_lined}
+use Rattle.fx_build.proofs.WindowCalls.{window_safe}
 
 -- ---- what a line that gives a stream takes
 
@@ -86,6 +87,7 @@ module _ (test : Tests) (stored : Stored) (lawful : AreLawful stored) where
   operator_safe s.Difference listed = difference_safe test stored
   operator_safe s.CumulativeSum listed = cumulative_safe test stored
   operator_safe s.Elapsed listed = elapsed_safe test stored
+  operator_safe s.Window listed = window_safe test stored
   operator_safe _ listed = absurd (false≢true listed)
 
   counted_safe : (g : StreamFn) (r : GroundRow) (received : List (List Table)) (made : End (List Table)) → IsSafe (TablesFit r) made → IsSafe (TablesFit r) (counted g received made)

@@ -1,6 +1,7 @@
 pub mod Aggregated
 pub mod Clip
 pub mod Cut
+pub mod Hidden
 pub mod Lengths
 pub mod Numbers
 pub mod Plain
