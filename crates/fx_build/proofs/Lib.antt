@@ -19,6 +19,7 @@ pub mod OperatorCalls
 pub mod OperatorLaws
 pub mod PairCalls
 pub mod ParamLaws
+pub mod PivotCalls
 pub mod PlainCalls
 pub mod RenameCalls
 pub mod RowCalls

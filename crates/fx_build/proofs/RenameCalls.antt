@@ -164,7 +164,7 @@ plain_null (g_is _) h = absurd (false≢true h)
 pub nothing_fits : (q : GroundRow) → ((l : Label) → IsTrue (is_plain (q l))) → RowFits q no_columns
 nothing_fits q plain l = subst (λ o. IsTrue (is_column_of (q l) o)) (sym (get-empty text_cmp l)) (plain_null (q l) (plain l))
 
-set_fits : (q : GroundRow) (out : Row) (x : Label) (a : Scalar) → RowFits q out → IsTrue (is_column_of (q x) (Some a)) → RowFits q (insert out x a)
+pub set_fits : (q : GroundRow) (out : Row) (x : Label) (a : Scalar) → RowFits q out → IsTrue (is_column_of (q x) (Some a)) → RowFits q (insert out x a)
 set_fits q out x a fit is l = subst (λ o. IsTrue (is_column_of (q l) o)) (sym (get_inserted out x a l)) (at (same_text l x) refl)
   where
     at : (c : Bool) → c ≡ same_text l x → IsTrue (is_column_of (q l) (if c then Some a else get out l))

@@ -97,6 +97,7 @@ is_listed s.Difference = true
 is_listed s.CumulativeSum = true
 is_listed s.Elapsed = true
 is_listed s.Window = true
+is_listed s.Pivot = true
 is_listed _ = false
 
 -- the stream is made of these alone
