@@ -27,7 +27,7 @@ use Rattle.fx_group.specs.Group.{is_listed as is_named}
 use Rattle.fx_pivot.proofs.Orders.{values_total}
 use Rattle.fx_pivot.specs.Cells.{cell_of, cell_under, cells_at, cells_by_place, cells_of, is_empty, is_refused, name_of, or_null, pivot_row, text_of, texts_of, values_cmp, values_of, with_cells, with_values}
 use Rattle.fx_pivot.specs.Pivot.{are_apart as stand_apart, based, collected, keyed, pivot_key, pivot_rows, pivoted, pivoted_table, pivoted_tables}
-use Rattle.fx_pivot.specs.declared.cell.Cell.{Cell}
+use Rattle.fx_pivot.specs.Hidden.{Cell}
 use Rattle.fx_schemes.specs.Builtins.{IsLine, apart, are_apart}
 use Rattle.fx_schemes.specs.Given.{list_at, text_at}
 use Rattle.fx_schemes.specs.Line.{EachIs, HasAll, IsKind, from_tables, kept, parameters, put}
@@ -50,12 +50,12 @@ use Rattle.fx_build.proofs.TableLaws.{flat_each_safe, gathered_all, regrouped_al
 
 apart_from : (xs ys : List Label) → apart xs ys ≡ true → (y : Label) → listed y ys ≡ true → listed y xs ≡ false
 apart_from [] ys e y in_ys = refl
-apart_from (x ∷ xs) ys e y in_ys = at (same_text y x) (listed x ys) refl refl e
+apart_from (x ∷ xs) ys e y in_ys = at (same_text y x) (listed x ys) refl refl (λ rest. apart_from xs ys rest y in_ys) e
   where
-    at : (c d : Bool) → c ≡ same_text y x → d ≡ listed x ys → (if d then false else apart xs ys) ≡ true → (if c then true else listed y xs) ≡ false
-    at c true k l e = absurd (false≢true e)
-    at false false k l e = apart_from xs ys e y in_ys
-    at true false k l e = absurd (false≢true (l ∙ ap (λ z. listed z ys) (sym (equal_text y x k)) ∙ in_ys))
+    at : (c d : Bool) → c ≡ same_text y x → d ≡ listed x ys → (apart xs ys ≡ true → listed y xs ≡ false) → (if d then false else apart xs ys) ≡ true → (if c then true else listed y xs) ≡ false
+    at c true k l next e = absurd (false≢true e)
+    at false false k l next e = next e
+    at true false k l next e = absurd (false≢true (l ∙ ap (λ z. listed z ys) (sym (equal_text y x k)) ∙ in_ys))
 
 none_named : (xs ys : List Label) → ((y : Label) → listed y ys ≡ true → listed y xs ≡ false) → list_any (is_named xs) ys ≡ false
 none_named xs [] off = refl
