@@ -10,6 +10,7 @@ pub mod FoldCalls
 pub mod FoldLaws
 pub mod JoinCalls
 pub mod JoinLaws
+pub mod KeyLaws
 pub mod KindLaws
 pub mod MemberCalls
 pub mod NameLaws

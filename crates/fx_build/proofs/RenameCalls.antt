@@ -112,45 +112,6 @@ name_type (old ∷ olds) (new ∷ news) r q l e h other = at (same_text l old) r
     at true is rest = chosen (same_text new new) (r old) (named olds news r q new) (same_itself new) ∙ ap r (sym (equal_text l old is))
     at false is rest = passed (same_text (new_name olds news l) new) (r old) (named olds news r q (new_name olds news l)) (elsewhere (sym is)) ∙ rest (later (sym is))
 
--- ---- entries of a row
-
-first : (a b : Bool) → T (a && b) → T a
-first true b h = tt
-first false b h = absurd h
-
-second : (a b : Bool) → T (a && b) → T b
-second true b h = h
-second false b h = absurd h
-
-not_tied : (o : Ordering) → T (is_lt o) → is_eq o ≡ false
-not_tied Less h = refl
-not_tied Equal h = absurd h
-not_tied Greater h = absurd h
-
-later_found : (e : Label × Scalar) (all es : List (Label × Scalar)) → T (below_all text_cmp e.0 es) → AllByRecursion (λ f. find text_cmp f.0 all ≡ Some f.1) es
-    → AllByRecursion (λ f. find text_cmp f.0 (e ∷ all) ≡ Some f.1) es
-later_found e all [] below h = tt
-later_found e all (f ∷ es) below h = (
-  ap (λ c. cond c (Some e.1) (find text_cmp f.0 all)) (tied f.0 e.0 ∙ apart (same_text f.0 e.0) refl) ∙ h.0,
-  later_found e all es (second (is_lt (text_cmp e.0 f.0)) (below_all text_cmp e.0 es) below) h.1,
-)
-  where
-    apart : (c : Bool) → c ≡ same_text f.0 e.0 → same_text f.0 e.0 ≡ false
-    apart false k = sym k
-    apart true k =
-        let one = not_tied (text_cmp e.0 f.0) (first (is_lt (text_cmp e.0 f.0)) (below_all text_cmp e.0 es) below) in
-        absurd (false≢true (sym one ∙ tied e.0 f.0 ∙ subst (λ z. same_text e.0 z ≡ true) (sym (equal_text f.0 e.0 k)) (same_itself e.0)))
-
-all_found : (es : List (Label × Scalar)) → T (is_sorted text_cmp es) → AllByRecursion (λ e. find text_cmp e.0 es ≡ Some e.1) es
-all_found [] h = tt
-all_found (e ∷ es) h = (
-  ap (λ c. cond c (Some e.1) (find text_cmp e.0 es)) (tied e.0 e.0 ∙ same_itself e.0),
-  later_found e es es (first (below_all text_cmp e.0 es) (is_sorted text_cmp es) h) (all_found es (second (below_all text_cmp e.0 es) (is_sorted text_cmp es) h)),
-)
-
-entries_found : (row : Row) → AllByRecursion (λ e. get row e.0 ≡ Some e.1) (entries row)
-entries_found row = each_of (λ e. find text_cmp e.0 (entries row) ≡ Some e.1) (λ e. get row e.0 ≡ Some e.1) (λ e h. get-entries row e.0 ∙ h) (entries row) (all_found (entries row) (entries_sorted row))
-
 -- ---- the renamed row
 
 plain_null : (f : GroundField) → IsTrue (is_plain f) → IsTrue (is_column_of f None)
