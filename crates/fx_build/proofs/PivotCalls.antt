@@ -1,14 +1,10 @@
 -- `pivot` of streams that fit is safe.
-use Rattle.std.proofs.Common.{◌≡◌, refl, sym, ap, subst, ◌∙◌, Bool, true, false, ◌&&◌, not, ◌||◌, List, [], ◌∷◌, map, length, Option, Some, None, arith}
+use Rattle.std.proofs.Common.{◌≡◌, refl, sym, ap, subst, ◌∙◌, Bool, true, false, ◌&&◌, not, ◌||◌, List, [], ◌∷◌, map, Option, Some, None}
 use Rattle.std.specs.Prelude.{codes, if◌then◌else◌, IsTrue}
-use Rattle.std.specs.Cmp.{IsTotalOrder}
 use Rattle.std.specs.FinMap as fin
 use Rattle.std.specs.FinMap.{get, insert}
-use Rattle.std.specs.FinMap.Entries.{by_order, put as put_entry}
 use Rattle.std.specs.List.{AllByRecursion, filter, list_any}
 use Rattle.std.specs.Ordering.{eq_by_cmp}
-use Rattle.std.specs.declared.cmp.Ordering.{Ordering}
-use Rattle.std.specs.declared.cmp.Ordering.TheVariants.{Less, Equal, Greater}
 use Rattle.std.specs.Cmp.Lexicographic.{same_text as equal_text}
 use Rattle.std.proofs.lemmas.Bool.{and_from, and_parts}
 use mathlib.Core.Bool.{false≢true}
@@ -20,13 +16,17 @@ use Rattle.fx_value.specs.declared.scalar.Scalar.{Scalar}
 use Rattle.fx_value.specs.declared.scalar.Scalar.TheVariants as scalar
 use Rattle.fx_types.specs.Ground.{Ground, GroundField, GroundRow, g_stream, g_text, g_absent, g_is, is_plain, listed}
 use Rattle.fx_types.specs.Term.{Label}
-use Rattle.fx_data.specs.Regrouped.{regrouped}
+use Rattle.fx_data.proofs.Lawful.{bare_lawful}
+use Rattle.fx_data.specs.Regrouped.{bare, regrouped}
+use Rattle.fx_data.specs.Table.{HasRisingLabels}
+use Rattle.fx_data.specs.declared.key.KeyEntry.{KeyEntry}
 use Rattle.fx_data.specs.declared.key.Key.{Key}
 use Rattle.fx_data.specs.declared.table.Table.{Table}
 use Rattle.fx_group.specs.Group.{is_listed as is_named}
 use Rattle.fx_pivot.proofs.Orders.{values_total}
+use Rattle.fx_pivot.proofs.Pivoted.{based_lawful, pivot_key_rises}
 use Rattle.fx_pivot.specs.Cells.{cell_of, cell_under, cells_at, cells_by_place, cells_of, is_empty, is_refused, name_of, or_null, pivot_row, text_of, texts_of, values_cmp, values_of, with_cells, with_values}
-use Rattle.fx_pivot.specs.Pivot.{are_apart as stand_apart, based, collected, keyed, pivot_key, pivot_rows, pivoted, pivoted_table, pivoted_tables}
+use Rattle.fx_pivot.specs.Pivot.{are_apart as stand_apart, based, collected, keyed, pivot_key, pivot_rows, pivoted, pivoted_table, pivoted_tables, stays}
 use Rattle.fx_pivot.specs.Hidden.{Cell}
 use Rattle.fx_schemes.specs.Builtins.{IsLine, apart, are_apart}
 use Rattle.fx_schemes.specs.Given.{list_at, text_at}
@@ -38,13 +38,13 @@ use Rattle.fx_meaning.specs.Rows.{Row}
 use Rattle.fx_plan.specs.Operators.{pivoted_in}
 use Rattle.fx_plan.specs.Sources.{Stored}
 use Rattle.fx_plan.proofs.SlotLaws.{same_itself}
-use Rattle.fx_build.specs.Rows.{RowFits, TablesFit, is_column_of}
+use Rattle.fx_build.specs.Rows.{EntryFits, RowFits, TableFits, TablesFit, is_column_of}
 use Rattle.fx_build.specs.Safe.{IsSafe}
-use Rattle.fx_build.proofs.ColumnCalls.{named_listed, word_safe}
+use Rattle.fx_build.proofs.ColumnCalls.{denied, named_listed, word_safe}
 use Rattle.fx_build.proofs.OperatorCalls.{OperatorIsSafe, by_line, one_safe}
 use Rattle.fx_build.proofs.RenameCalls.{nothing_fits, set_fits}
 use Rattle.fx_build.proofs.SafeLaws.{safe_then}
-use Rattle.fx_build.proofs.TableLaws.{flat_each_safe, gathered_all, regrouped_all}
+use Rattle.fx_build.proofs.TableLaws.{KeyedFits, flat_each_safe, gathered_all, pairs_of, regrouped_all}
 
 -- ---- lists of labels without a common one
 
@@ -71,10 +71,6 @@ none_named xs (y ∷ ys) off =
     later true d h = refl
     later false d h = h
 
-denied : (c : Bool) → not c ≡ true → c ≡ false
-denied false e = refl
-denied true e = absurd (false≢true e)
-
 -- what the line says of the labels is what the operator asks of them
 apart_too : (xs ys : List Label) (z : Label) → are_apart xs ys z ≡ true → stand_apart xs ys z ≡ true
 apart_too xs ys z e =
@@ -87,30 +83,6 @@ apart_too xs ys z e =
     both : (c d : Bool) → c ≡ false → d ≡ false → (c || d) ≡ false
     both false d h k = k
     both true d h k = absurd (false≢true (sym h))
-
--- ---- maps of places
-
-module _ {K X : Type 0} (cmp : K → K → Ordering) (total : IsTotalOrder cmp) (P : K → Type 0) (Q : X → Type 0) where
-  abbrev IsPair : K × X → Type 0
-  IsPair e = P e.0 × Q e.1
-
-  put_pairs : (k : K) (v : X) (es : List (K × X)) → P k → Q v → AllByRecursion IsPair es → AllByRecursion IsPair (put_entry cmp k v es)
-  put_pairs k v [] h l all = ((h, l), tt)
-  put_pairs k v (e ∷ es) h l all =
-      elim (cmp k e.0) as (λ o. AllByRecursion IsPair (by_order o ((k, v) ∷ e ∷ es) ((e.0, v) ∷ es) (e ∷ put_entry cmp k v es))) [
-        | Less ↦ ((h, l), all)
-        | Equal ↦ ((all.0.0, l), all.1)
-        | Greater ↦ (all.0, put_pairs k v es h l all.1)
-      ]
-
-  no_pairs : (es : List (K × X)) → length es ≡ 0 → AllByRecursion IsPair es
-  no_pairs [] none = tt
-  no_pairs (e ∷ es) none = absurd (omega arith)
-
-  pub pairs_of : (es : List (K × X)) → AllByRecursion IsPair es → AllByRecursion IsPair (fin.entries (fin.from_entries {R = cmp} es))
-  pairs_of [] h = no_pairs _ (sym (fin.len-entries _) ∙ fin.len-empty cmp X)
-  pairs_of (e ∷ es) h =
-      subst (AllByRecursion IsPair) (sym (fin.entries-insert total (fin.from_entries es) e.0 e.1)) (put_pairs e.0 e.1 _ h.0.0 h.0.1 (pairs_of es h.1))
 
 -- ---- cells
 
@@ -218,30 +190,38 @@ module _ (r : GroundRow) (xs ys : List Label) (z : Label) (c : Ground) (present 
   places_are all [] h k = tt
   places_are all (x ∷ cells) h k = ((k.0.0, at_place x.place all h), places_are all cells h k.1)
 
-  rows_of : (es : List (List Scalar × List (Label × Scalar))) → AllByRecursion IsPlace es → (key : Key) → AllByRecursion (λ x. RowFits made x.row) (map (keyed key) (map (pivot_row xs) es))
-  rows_of [] h key = tt
-  rows_of (e ∷ es) h key = (cells_fit e.1 (with_values xs e.0 fin.empty) h.0.1 (values_fit xs e.0 fin.empty h.0.0 (nothing_fits made plain)), rows_of es h.1 key)
+  rows_of : (es : List (List Scalar × List (Label × Scalar))) → AllByRecursion IsPlace es → (key : Key) → HasRisingLabels key → AllByRecursion (KeyedFits made) (map (keyed key) (map (pivot_row xs) es))
+  rows_of [] h key rising = tt
+  rows_of (e ∷ es) h key rising = ((rising, cells_fit e.1 (with_values xs e.0 fin.empty) h.0.1 (values_fit xs e.0 fin.empty h.0.0 (nothing_fits made plain))), rows_of es h.1 key rising)
 
-  pivot_fit : (key : Key) (cells : List Cell) → AllByRecursion IsCell cells → AllByRecursion (λ x. RowFits made x.row) (map (keyed key) (pivot_rows xs cells))
+  pivot_fit : (key : Key) (cells : List Cell) → HasRisingLabels key → AllByRecursion IsCell cells → AllByRecursion (KeyedFits made) (map (keyed key) (pivot_rows xs cells))
   unfolding cells_by_place
-  pivot_fit key cells h = rows_of _ (pairs_of values_cmp values_total (Stand xs) (AllByRecursion IsNamed) _ (places_are cells cells h h)) key
+  pivot_fit key cells rising h = rows_of _ (pairs_of values_cmp values_total (Stand xs) (AllByRecursion IsNamed) _ (places_are cells cells h h)) key rising
 
-  table_safe : (place : Place) (t : Table) → AllByRecursion (RowFits r) t.rows → IsSafe (AllByRecursion (λ x. RowFits made x.row)) (pivoted_table place xs ys z t)
+  table_safe : (place : Place) (t : Table) → TableFits r t → IsSafe (AllByRecursion (KeyedFits made)) (pivoted_table place xs ys z t)
   table_safe place t fit =
-      safe_then (AllByRecursion IsCell) (AllByRecursion (λ x. RowFits made x.row)) (cells_of place xs ys z t.key t.rows) (λ cells. Gives (map (keyed (pivot_key xs t.key)) (pivot_rows xs cells)) 0)
-      (cells_safe place t.key t.rows fit) (λ cells h. pivot_fit (pivot_key xs t.key) cells h)
+      safe_then (AllByRecursion IsCell) (AllByRecursion (KeyedFits made)) (cells_of place xs ys z t.key t.rows) (λ cells. Gives (map (keyed (pivot_key xs t.key)) (pivot_rows xs cells)) 0)
+      (cells_safe place t.key t.rows fit.1) (λ cells h. pivot_fit (pivot_key xs t.key) cells (pivot_key_rises xs t.key fit.0.0) h)
 
   based_fit : (taken : List Label) (tables : List Table) → TablesFit r tables → TablesFit r (map (based taken) tables)
   based_fit taken [] h = tt
-  based_fit taken (t ∷ tables) h = (h.0, based_fit taken tables h.1)
+  based_fit taken (t ∷ tables) h = ((((based_lawful taken (bare t.key) (bare_lawful t.key h.0.0.0)).rising, entries_left t.key.entries h.0.0.1), h.0.1), based_fit taken tables h.1)
+    where
+      entries_left : (es : List KeyEntry) → AllByRecursion (EntryFits r) es → AllByRecursion (EntryFits r) (filter (stays taken) es)
+      entries_left [] h = tt
+      entries_left (e ∷ es) h =
+          elim (stays taken e) as (λ b. AllByRecursion (EntryFits r) (if b then e ∷ filter (stays taken) es else filter (stays taken) es)) [
+            | true ↦ (h.0, entries_left es h.1)
+            | false ↦ entries_left es h.1
+          ]
 
   pub pivoted_safe : (place : Place) (tables : List Table) → are_apart xs ys z ≡ true → TablesFit r tables → IsSafe (TablesFit made) (pivoted place xs ys z tables)
   unfolding pivoted
   pivoted_safe place tables e fit =
       subst (λ b. IsSafe (TablesFit made) (if b then and_then (pivoted_tables place xs ys z (collected (z ∷ ys) tables)) (λ rows. Gives (regrouped rows) 0) else Stuck)) (sym (apart_too xs ys z e))
-      (safe_then (AllByRecursion (λ x. RowFits made x.row)) (TablesFit made) (pivoted_tables place xs ys z (collected (z ∷ ys) tables)) (λ rows. Gives (regrouped rows) 0)
-      (flat_each_safe (λ t. AllByRecursion (RowFits r) t.rows) (λ x. RowFits made x.row) (pivoted_table place xs ys z) (collected (z ∷ ys) tables) (gathered_all (RowFits r) _ (based_fit (z ∷ ys) tables fit)) (table_safe place))
-      (λ rows all. regrouped_all (RowFits made) rows all))
+      (safe_then (AllByRecursion (KeyedFits made)) (TablesFit made) (pivoted_tables place xs ys z (collected (z ∷ ys) tables)) (λ rows. Gives (regrouped rows) 0)
+      (flat_each_safe (TableFits r) (KeyedFits made) (pivoted_table place xs ys z) (collected (z ∷ ys) tables) (gathered_all r _ (based_fit (z ∷ ys) tables fit)) (table_safe place))
+      (λ rows all. regrouped_all made rows all))
 
 pub pivot_safe : (test : Tests) (stored : Stored) → OperatorIsSafe test stored s.Pivot
 unfolding IsLine
