@@ -1,3 +1,4 @@
+pub mod AggregateCalls
 pub mod AnswerLaws
 pub mod Applied
 pub mod ArgLaws

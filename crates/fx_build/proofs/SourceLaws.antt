@@ -93,7 +93,7 @@ tags_lack x own (tag ∷ tags) row h none =
   where
     other : (c : Bool) → c ≡ same_text x tag.key → same_text x tag.key ≡ false
     other false e = sym e
-    other true e = absurd (false≢true (sym h.0 ∙ ap (λ l. starts_with nat_eq l (95 ∷ [])) (sym (equal_text x tag.key (sym e))) ∙ own))
+    other true e = absurd (false≢true (sym h.0 ∙ ap (λ l. starts_with nat_eq l (95 ∷ [])) (sym (equal_text x tag.key e)) ∙ own))
 
 abbrev named_alone : GroundRow
 named_alone = put (codes "_measurement") g_text (put (codes "_field") g_text texts_alone)
@@ -115,7 +115,7 @@ key_row_fits k key tags l a has =
         ∙ get_inserted _ (codes "_field") (scalar.Text key.field) x ∙ passed (same_text x (codes "_field")) _ _ f ∙ tags_lack x own key.tags empty tags (get-empty text_cmp x)
 
     no_value : (x : Label) → true ≡ same_text l x → get (named key (with_tags empty key.tags)) x ≡ None → ⊥
-    no_value x e none = let clash : None ≡ Some a = sym none ∙ ap (get (named key (with_tags empty key.tags))) (sym (equal_text l x (sym e))) ∙ has in cc
+    no_value x e none = let clash : None ≡ Some a = sym none ∙ ap (get (named key (with_tags empty key.tags))) (sym (equal_text l x e)) ∙ has in cc
 
     at : (c d : Bool) → c ≡ same_text l (codes "_time") → d ≡ same_text l (codes "_value") → (m f : Bool)
         → IsTrue (is_column_of (if m then g_is g_text else (if f then g_is g_text else g_is g_text)) (Some a))
