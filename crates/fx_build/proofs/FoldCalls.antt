@@ -10,6 +10,7 @@ use Rattle.fx_types.specs.Term.{Label}
 use Rattle.fx_base.specs.Text.{same_text}
 use Rattle.fx_data.specs.Regrouped.{regrouped}
 use Rattle.fx_data.specs.declared.table.Table.{Table}
+use Rattle.fx_agg.proofs.Reduced.{all_pinned_rises}
 use Rattle.fx_agg.specs.Reduce.{folded, reduced, reduced_rows, reduced_table, reduced_tables, reduced_to}
 use Rattle.fx_group.specs.Answer.{Meaning, line_of}
 use Rattle.fx_schemes.specs.Builtins.{IsLine}
@@ -25,31 +26,32 @@ use Rattle.fx_meaning.specs.Rows.{Row, pair_of, row_meaning}
 use Rattle.fx_meaning.specs.Value.{Val}
 use Rattle.fx_build.specs.Fit.{fits}
 use Rattle.fx_plan.specs.Operators.{of_folded_rows, row_in}
-use Rattle.fx_build.specs.Rows.{RowFits, TablesFit}
+use Rattle.fx_build.specs.Rows.{RowFits, TableFits, TablesFit}
 use Rattle.fx_build.specs.Safe.{IsSafe}
 use Rattle.fx_plan.specs.Sources.{Stored}
 use Rattle.fx_build.proofs.OperatorCalls.{OperatorIsSafe, argument_safe, by_line, one_safe, row_in_safe}
 use Rattle.fx_build.proofs.PairCalls.{pair_meaning_safe, pair_suits}
 use Rattle.fx_build.proofs.RowCalls.{line_safe}
 use Rattle.fx_build.proofs.SafeLaws.{safe_cut, safe_then}
-use Rattle.fx_build.proofs.TableLaws.{EachRow, flat_each_safe, regrouped_all}
+use Rattle.fx_build.proofs.TableLaws.{KeyedFits, flat_each_safe, regrouped_all}
 
 -- ---- over any rows
 
-module _ (P Q : Row → Type 0) (means : Meaning) (limit : ℕ) (folds : (out row : Row) → Q out → P row → IsSafe Q (folded means limit out row)) where
-  walk_safe : (rows : List Row) (out : Row) → Q out → AllByRecursion P rows → IsSafe Q (walk (folded means limit) out rows)
+module _ (p q : GroundRow) (means : Meaning) (limit : ℕ) (folds : (out row : Row) → RowFits q out → RowFits p row → IsSafe (RowFits q) (folded means limit out row)) where
+  walk_safe : (rows : List Row) (out : Row) → RowFits q out → AllByRecursion (RowFits p) rows → IsSafe (RowFits q) (walk (folded means limit) out rows)
   walk_safe [] out h all = h
   walk_safe (row ∷ rows) out h all =
-      safe_then Q Q (folded means limit out row) (λ next. walk (folded means limit) next rows) (folds out row h all.0) (λ next is. walk_safe rows next is all.1)
+      safe_then (RowFits q) (RowFits q) (folded means limit out row) (λ next. walk (folded means limit) next rows) (folds out row h all.0) (λ next is. walk_safe rows next is all.1)
 
-  pub reduced_safe : (identity : Row) (tables : List Table) → Q identity → EachRow P tables → IsSafe (EachRow Q) (reduced means identity tables limit)
+  pub reduced_safe : (identity : Row) (tables : List Table) → RowFits q identity → TablesFit p tables → IsSafe (TablesFit q) (reduced means identity tables limit)
   unfolding reduced
   reduced_safe identity tables h all =
-      safe_cut (EachRow Q) limit (and_then (reduced_tables means identity tables limit) (λ rows. Gives (regrouped rows) 0))
-      (safe_then (AllByRecursion (λ r. Q r.row)) (EachRow Q) (reduced_tables means identity tables limit) (λ rows. Gives (regrouped rows) 0)
-      (flat_each_safe (λ t. AllByRecursion P t.rows) (λ r. Q r.row) (reduced_table means identity limit) tables all
-      (λ t rows. safe_then Q (AllByRecursion (λ r. Q r.row)) (reduced_rows means identity t.rows limit) (λ row. Gives (reduced_to t.key row ∷ []) 0) (walk_safe t.rows identity h rows) (λ row is. (is, tt))))
-      (λ rows made. regrouped_all Q rows made))
+      safe_cut (TablesFit q) limit (and_then (reduced_tables means identity tables limit) (λ rows. Gives (regrouped rows) 0))
+      (safe_then (AllByRecursion (KeyedFits q)) (TablesFit q) (reduced_tables means identity tables limit) (λ rows. Gives (regrouped rows) 0)
+      (flat_each_safe (TableFits p) (KeyedFits q) (reduced_table means identity limit) tables all
+      (λ t fit. safe_then (RowFits q) (AllByRecursion (KeyedFits q)) (reduced_rows means identity t.rows limit) (λ row. Gives (reduced_to t.key row ∷ []) 0) (walk_safe t.rows identity h fit.1)
+      (λ row is. ((all_pinned_rises t.key fit.0.0, is), tt))))
+      (λ rows made. regrouped_all q rows made))
 
 -- ---- the function of a row and an accumulator
 
@@ -79,4 +81,4 @@ reduce_safe test stored place w L needs input r args limit tss line =
     (λ ts fit. argument_safe (TablesFit a) (g_rec a) args (codes "identity") (λ v. row_in v >>= (λ identity. argument (codes "fn") args >>= (λ f. reduced (row_meaning test f) identity ts limit))) (further (codes "identity"))
     (λ v k. safe_then (RowFits a) (TablesFit a) (row_in v) (λ identity. argument (codes "fn") args >>= (λ f. reduced (row_meaning test f) identity ts limit)) (row_in_safe test stored a is.0.3.1 v k)
     (λ identity first. argument_safe (TablesFit a) (folder q a) args (codes "fn") (λ f. reduced (row_meaning test f) identity ts limit) (further (codes "fn"))
-    (λ f h. reduced_safe (RowFits q) (RowFits a) (row_meaning test f) limit (λ out row. folded_safe test limit q a is.0.3.1 f h out row) identity ts first fit))))) place L needs input r args limit tss line.2
+    (λ f h. reduced_safe q a (row_meaning test f) limit (λ out row. folded_safe test limit q a is.0.3.1 f h out row) identity ts first fit))))) place L needs input r args limit tss line.2

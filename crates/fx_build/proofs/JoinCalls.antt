@@ -106,7 +106,7 @@ module _ (test : Tests) (stored : Stored) where
   pairs_safe side r q t args limit ls rs plain_r plain_q plain_t on both fit_l fit_r =
       argument_safe (TablesFit t) (of_rows r q g_bool) args (codes "on") (λ on. argument (codes "as") args >>= (λ both. joined (row_meaning test on) (row_meaning test both) side ls rs limit)) on
       (λ f h. argument_safe (TablesFit t) (of_rows r q (g_rec t)) args (codes "as") (λ both. joined (row_meaning test f) (row_meaning test both) side ls rs limit) both
-      (λ g k. joined_safe (RowFits r) (RowFits q) (RowFits t) (row_meaning test f) (row_meaning test g) side limit (nothing_fits r plain_r) (nothing_fits q plain_q) (matched_safe test limit r q f h)
+      (λ g k. joined_safe r q t (row_meaning test f) (row_meaning test g) side limit (nothing_fits r plain_r) (nothing_fits q plain_q) (matched_safe test limit r q f h)
       (made_safe test limit r q t plain_t g k) ls rs fit_l fit_r))
 
   pub inner_safe : OperatorIsSafe test stored s.JoinInner
@@ -168,7 +168,7 @@ module _ (test : Tests) (stored : Stored) where
       (λ method. found (side_named method) >>= (λ side. argument (codes "as") args >>= (λ both. joined_by_time (row_meaning test both) side ls rs limit))) method.1
       (word_safe (TablesFit t) (side_named method.0) side.0 (λ side. argument (codes "as") args >>= (λ both. joined_by_time (row_meaning test both) side ls rs limit)) side.1
       (argument_safe (TablesFit t) (of_rows p q (g_rec t)) args (codes "as") (λ both. joined_by_time (row_meaning test both) side.0 ls rs limit) (further (codes "as"))
-      (λ g k. joined_safe (RowFits p) (RowFits q) (RowFits t) (same_times (codes "_time")) (row_meaning test g) side.0 limit (nothing_fits p is.0.2.1) (nothing_fits q (is.0.1 (codes "right")).1)
+      (λ g k. joined_safe p q t (same_times (codes "_time")) (row_meaning test g) side.0 limit (nothing_fits p is.0.2.1) (nothing_fits q (is.0.1 (codes "right")).1)
       (times_safe test limit p q line.1.1 line.1.3) (made_safe test limit p q t is.0.3.1 g k) ls rs fit_l fit_r))))) place L needs input r args limit tss line.1.5
     where
       named_side : (a c d e : Bool) → (if a then true else (if c then true else (if d then true else (if e then true else false)))) ≡ true

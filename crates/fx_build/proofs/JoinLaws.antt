@@ -7,11 +7,13 @@ use Rattle.std.specs.FinMap.Entries.{by_order, put}
 use Rattle.std.proofs.lemmas.Grind.{flat_map-append}
 use Rattle.std.proofs.lemmas.List.{append-nil}
 use Rattle.std.specs.List.{AllByRecursion}
+use Rattle.fx_types.specs.Ground.{GroundRow}
 use Rattle.fx_value.specs.Ends.{Gives, and_then}
 use Rattle.fx_value.specs.Works.{flat_each}
 use Rattle.fx_data.specs.Gathered.{rows_with}
 use Rattle.fx_data.specs.Key.{key_cmp}
 use Rattle.fx_data.specs.Regrouped.{regrouped}
+use Rattle.fx_data.specs.Table.{HasRisingLabels}
 use Rattle.fx_data.specs.declared.key.Key.{Key}
 use Rattle.fx_data.specs.declared.keyed_row.KeyedRow.{KeyedRow}
 use Rattle.fx_data.specs.declared.table.Table.{Table}
@@ -23,33 +25,10 @@ use Rattle.fx_join.specs.Joined.{all_met_rows, joined, lines_of, met_rows}
 use Rattle.fx_join.specs.Meet.{meeting_of, meetings, met_under}
 use Rattle.fx_join.specs.declared.side.Side.{Side}
 use Rattle.fx_meaning.specs.Rows.{Row}
+use Rattle.fx_build.specs.Rows.{RowFits, TablesFit}
 use Rattle.fx_build.specs.Safe.{IsSafe}
 use Rattle.fx_build.proofs.SafeLaws.{safe_cut, safe_then}
-use Rattle.fx_build.proofs.TableLaws.{EachRow, all_with, flat_each_safe, regrouped_all}
-
--- ---- maps by key
-
-module _ {X : Type 0} (P : X → Type 0) where
-  abbrev HasValue : Key × X → Type 0
-  HasValue e = P e.1
-
-  put_value : (k : Key) (x : X) (es : List (Key × X)) → P x → AllByRecursion HasValue es → AllByRecursion HasValue (put key_cmp k x es)
-  put_value k x [] h all = (h, tt)
-  put_value k x (e ∷ es) h all =
-      elim (key_cmp k e.0) as (λ o. AllByRecursion HasValue (by_order o ((k, x) ∷ e ∷ es) ((e.0, x) ∷ es) (e ∷ put key_cmp k x es))) [
-        | Less ↦ (h, all)
-        | Equal ↦ (h, all.1)
-        | Greater ↦ (all.0, put_value k x es h all.1)
-      ]
-
-  no_values : (es : List (Key × X)) → length es ≡ 0 → AllByRecursion HasValue es
-  no_values [] none = tt
-  no_values (e ∷ es) none = absurd (omega arith)
-
-  values_all : (es : List (Key × X)) → AllByRecursion HasValue es → AllByRecursion HasValue (fin.entries (fin.from_entries {R = key_cmp} es))
-  values_all [] h = no_values _ (sym (fin.len-entries _) ∙ fin.len-empty key_cmp X)
-  values_all (e ∷ es) h =
-      subst (AllByRecursion HasValue) (sym (fin.entries-insert key_cmp_total (fin.from_entries es) e.0 e.1)) (put_value e.0 e.1 _ h.0 (values_all es h.1))
+use Rattle.fx_build.proofs.TableLaws.{IsPair, KeyedFits, all_with, flat_each_safe, pairs_of, regrouped_all}
 
 -- what is said of lists of rows that end in nothing
 with_none : (P : Row → Type 0) (rows : List Row) → AllByRecursion P rows → AllByRecursion P (rows ++ [])
@@ -58,18 +37,33 @@ with_none P rows h = subst (AllByRecursion P) (sym (append-nil rows)) h
 without_none : (P : Row → Type 0) (rows : List Row) → AllByRecursion P (rows ++ []) → AllByRecursion P rows
 without_none P rows h = subst (AllByRecursion P) (append-nil rows) h
 
-module _ (L R Q : Row → Type 0) where
+module _ (l_row r_row q : GroundRow) where
+  abbrev L : Row → Type 0
+  L = RowFits l_row
+
+  abbrev R : Row → Type 0
+  R = RowFits r_row
+
+  abbrev Q : Row → Type 0
+  Q = RowFits q
+
   abbrev Meets : List Row × List Row → Type 0
   Meets x = AllByRecursion L x.0 × AllByRecursion R x.1
 
-  pairs_meet : (lefts rights ts : List Table) → EachRow L lefts → EachRow R rights
-      → AllByRecursion (HasValue Meets) (map (λ (t : Table). (t.key, (rows_with t.key lefts, rows_with t.key rights))) ts)
-  pairs_meet lefts rights [] h k = tt
-  pairs_meet lefts rights (t ∷ ts) h k = ((all_with L t.key lefts h, all_with R t.key rights k), pairs_meet lefts rights ts h k)
+  pairs_meet : (lefts rights ts : List Table) → AllByRecursion (λ t. HasRisingLabels t.key) ts → TablesFit l_row lefts → TablesFit r_row rights
+      → AllByRecursion (IsPair HasRisingLabels Meets) (map (λ (t : Table). (t.key, (rows_with t.key lefts, rows_with t.key rights))) ts)
+  pairs_meet lefts rights [] rise h k = tt
+  pairs_meet lefts rights (t ∷ ts) rise h k = ((rise.0, (all_with l_row t.key lefts h, all_with r_row t.key rights k)), pairs_meet lefts rights ts rise.1 h k)
 
-  all_meet : (lefts rights : List Table) → EachRow L lefts → EachRow R rights → AllByRecursion (HasValue Meets) (fin.entries (met_under lefts rights))
+  keys_rise : (r : GroundRow) (ts : List Table) → TablesFit r ts → AllByRecursion (λ t. HasRisingLabels t.key) ts
+  keys_rise r [] h = tt
+  keys_rise r (t ∷ ts) h = (h.0.0.0, keys_rise r ts h.1)
+
+  all_meet : (lefts rights : List Table) → TablesFit l_row lefts → TablesFit r_row rights → AllByRecursion (IsPair HasRisingLabels Meets) (fin.entries (met_under lefts rights))
   unfolding met_under
-  all_meet lefts rights h k = values_all Meets _ (pairs_meet lefts rights (lefts ++ rights) h k)
+  all_meet lefts rights h k =
+      pairs_of key_cmp key_cmp_total HasRisingLabels Meets _
+      (pairs_meet lefts rights (lefts ++ rights) (all-append (λ t. HasRisingLabels t.key) lefts rights (keys_rise l_row lefts h) (keys_rise r_row rights k)) h k)
 
   abbrev IsMade : Option Row → Type 0
   IsMade None = Unit {0}
@@ -93,9 +87,9 @@ module _ (L R Q : Row → Type 0) where
       at true = unmarked_all marks rights h
       at false = tt
 
-  keyed_all : (key : Key) (rows : List Row) → AllByRecursion Q rows → AllByRecursion (λ (r : KeyedRow). Q r.row) (map (keyed key) rows)
-  keyed_all key [] h = tt
-  keyed_all key (row ∷ rows) h = (h.0, keyed_all key rows h.1)
+  keyed_all : (key : Key) (rows : List Row) → HasRisingLabels key → AllByRecursion Q rows → AllByRecursion (KeyedFits q) (map (keyed key) rows)
+  keyed_all key [] rising h = tt
+  keyed_all key (row ∷ rows) rising h = ((rising, h.0), keyed_all key rows rising h.1)
 
   module _ (on both : Meaning) (side : Side) (limit : ℕ) (none_left : L fin.empty) (none_right : R fin.empty) (says : (l r : Row) → L l → R r → IsSafe (λ yes. Unit {0}) (matched on limit l r))
       (makes : (l r : Row) → L l → R r → IsSafe Q (made both limit l r)) where
@@ -131,24 +125,24 @@ module _ (L R Q : Row → Type 0) where
         rows_both : (xs ys : _) → AllByRecursion Q (rows_of xs) → AllByRecursion Q (rows_of ys) → AllByRecursion Q (rows_of (xs ++ ys))
         rows_both xs ys h k = subst (AllByRecursion Q) (sym (flat_map-append _ xs ys)) (all-append Q (rows_of xs) (rows_of ys) h k)
 
-    met_safe : (e : Key × (List Row × List Row)) → HasValue Meets e → IsSafe (AllByRecursion (λ (r : KeyedRow). Q r.row)) (met_rows on both side limit (meeting_of e))
+    met_safe : (e : Key × (List Row × List Row)) → IsPair HasRisingLabels Meets e → IsSafe (AllByRecursion (KeyedFits q)) (met_rows on both side limit (meeting_of e))
     met_safe e h =
-        safe_then (λ lines. AllByRecursion Q (rows_of lines)) (AllByRecursion (λ (r : KeyedRow). Q r.row)) (lines_of on both side e.1.1 e.1.0 limit) _ (lines_safe e.1.1 e.1.0 h.1 h.0)
-        (λ lines has. safe_then (AllByRecursion Q) (AllByRecursion (λ (r : KeyedRow). Q r.row)) (flat_each (lone_right both limit) (left_over side (all_marked (no_marks e.1.1) lines) e.1.1)) _
-        (flat_each_safe R Q (lone_right both limit) (left_over side (all_marked (no_marks e.1.1) lines) e.1.1) (left_over_all side (all_marked (no_marks e.1.1) lines) e.1.1 h.1)
+        safe_then (λ lines. AllByRecursion Q (rows_of lines)) (AllByRecursion (KeyedFits q)) (lines_of on both side e.1.1 e.1.0 limit) _ (lines_safe e.1.1 e.1.0 h.1.1 h.1.0)
+        (λ lines has. safe_then (AllByRecursion Q) (AllByRecursion (KeyedFits q)) (flat_each (lone_right both limit) (left_over side (all_marked (no_marks e.1.1) lines) e.1.1)) _
+        (flat_each_safe R Q (lone_right both limit) (left_over side (all_marked (no_marks e.1.1) lines) e.1.1) (left_over_all side (all_marked (no_marks e.1.1) lines) e.1.1 h.1.1)
         (λ r is. safe_then Q (AllByRecursion Q) (made both limit fin.empty r) (λ row. Gives (row ∷ []) 0) (makes fin.empty r none_left is) (λ row made. (made, tt))))
-        (λ alone all. keyed_all e.0 (rows_of lines ++ alone) (all-append Q (rows_of lines) alone has all)))
+        (λ alone all. keyed_all e.0 (rows_of lines ++ alone) h.0 (all-append Q (rows_of lines) alone has all)))
 
-    all_met_safe : (es : List (Key × (List Row × List Row))) → AllByRecursion (HasValue Meets) es → IsSafe (AllByRecursion (λ (r : KeyedRow). Q r.row)) (all_met_rows on both side (map meeting_of es) limit)
+    all_met_safe : (es : List (Key × (List Row × List Row))) → AllByRecursion (IsPair HasRisingLabels Meets) es → IsSafe (AllByRecursion (KeyedFits q)) (all_met_rows on both side (map meeting_of es) limit)
     all_met_safe [] h = tt
     all_met_safe (e ∷ es) h =
-        safe_then (AllByRecursion (λ (r : KeyedRow). Q r.row)) (AllByRecursion (λ (r : KeyedRow). Q r.row)) (met_rows on both side limit (meeting_of e)) _ (met_safe e h.0)
-        (λ xs first. safe_then (AllByRecursion (λ (r : KeyedRow). Q r.row)) (AllByRecursion (λ (r : KeyedRow). Q r.row)) (all_met_rows on both side (map meeting_of es) limit) (λ ys. Gives (xs ++ ys) 0) (all_met_safe es h.1)
-        (λ ys rest. all-append (λ (r : KeyedRow). Q r.row) xs ys first rest))
+        safe_then (AllByRecursion (KeyedFits q)) (AllByRecursion (KeyedFits q)) (met_rows on both side limit (meeting_of e)) _ (met_safe e h.0)
+        (λ xs first. safe_then (AllByRecursion (KeyedFits q)) (AllByRecursion (KeyedFits q)) (all_met_rows on both side (map meeting_of es) limit) (λ ys. Gives (xs ++ ys) 0) (all_met_safe es h.1)
+        (λ ys rest. all-append (KeyedFits q) xs ys first rest))
 
-    pub joined_safe : (lefts rights : List Table) → EachRow L lefts → EachRow R rights → IsSafe (EachRow Q) (joined on both side lefts rights limit)
+    pub joined_safe : (lefts rights : List Table) → TablesFit l_row lefts → TablesFit r_row rights → IsSafe (TablesFit q) (joined on both side lefts rights limit)
     unfolding joined
     joined_safe lefts rights h k =
-        safe_cut (EachRow Q) limit (and_then (all_met_rows on both side (meetings lefts rights) limit) (λ rows. Gives (regrouped rows) 0))
-        (safe_then (AllByRecursion (λ (r : KeyedRow). Q r.row)) (EachRow Q) (all_met_rows on both side (meetings lefts rights) limit) (λ rows. Gives (regrouped rows) 0)
-        (all_met_safe (fin.entries (met_under lefts rights)) (all_meet lefts rights h k)) (λ rows all. regrouped_all Q rows all))
+        safe_cut (TablesFit q) limit (and_then (all_met_rows on both side (meetings lefts rights) limit) (λ rows. Gives (regrouped rows) 0))
+        (safe_then (AllByRecursion (KeyedFits q)) (TablesFit q) (all_met_rows on both side (meetings lefts rights) limit) (λ rows. Gives (regrouped rows) 0)
+        (all_met_safe (fin.entries (met_under lefts rights)) (all_meet lefts rights h k)) (λ rows all. regrouped_all q rows all))

@@ -1,3 +1,4 @@
+pub mod AggregateCalls
 pub mod AnswerLaws
 pub mod Applied
 pub mod ArgLaws
@@ -10,6 +11,7 @@ pub mod FoldCalls
 pub mod FoldLaws
 pub mod JoinCalls
 pub mod JoinLaws
+pub mod KeyLaws
 pub mod KindLaws
 pub mod MemberCalls
 pub mod NameLaws
@@ -19,6 +21,7 @@ pub mod OperatorCalls
 pub mod OperatorLaws
 pub mod PairCalls
 pub mod ParamLaws
+pub mod PivotCalls
 pub mod PlainCalls
 pub mod RenameCalls
 pub mod RowCalls

@@ -3,6 +3,7 @@ use Rattle.std.proofs.Common.{◌≡◌, refl, sym, ap, subst, ◌∙◌, inl, i
 use Rattle.std.specs.Prelude.{if◌then◌else◌, codes, IsTrue, Option}
 use Rattle.std.specs.FinMap.{get, insert}
 use Rattle.std.specs.List.{AllByRecursion}
+use Rattle.std.specs.List.Sorted.{IsStrictlySortedBy}
 use mathlib.Core.Bool.{false≢true}
 use Rattle.fx_base.specs.Text.{same_text}
 use Rattle.fx_base.specs.declared.fault.FaultKind.TheVariants.{NoBucket}
@@ -20,10 +21,14 @@ use Rattle.fx_types.specs.Ground.{Ground, GroundField, GroundRow, g_bool, g_text
 use Rattle.fx_types.specs.Kinds.{of_kind}
 use Rattle.fx_types.specs.Size.{IsType}
 use Rattle.fx_types.specs.Term.{Label}
+use Rattle.fx_data.specs.Columns.{key_with}
+use Rattle.fx_data.specs.Table.{HasRisingLabels}
+use Rattle.fx_data.specs.declared.key.Key.{Key}
 use Rattle.fx_data.specs.declared.table.Table.{Table}
 use Rattle.fx_group.specs.Filter.{filtered, table_if}
 use Rattle.fx_group.specs.Map.{mapped}
 use Rattle.fx_group.specs.Range.{is_between, ranged}
+use Rattle.fx_group.specs.RangeRows.{bounded_key}
 use Rattle.fx_line.specs.Stored.{IsLawful}
 use Rattle.fx_schemes.specs.Builtins.{IsLine}
 use Rattle.fx_schemes.specs.Given.{Given}
@@ -39,10 +44,11 @@ use Rattle.fx_meaning.specs.Rows.{Row, row_from, row_meaning}
 use Rattle.fx_meaning.specs.Value.{Val, cell, Vals, no_vals, more_vals, Slots, look}
 use Rattle.fx_build.specs.Bound.{typed}
 use Rattle.fx_build.specs.Fit.{FurtherFit, IsMoment, each_fits, fits, is_cell, keeps_at, with_input}
-use Rattle.fx_build.specs.Rows.{RowFits, TablesFit, is_column_of}
+use Rattle.fx_build.specs.Rows.{KeyFits, RowFits, TablesFit, is_column_of}
 use Rattle.fx_build.specs.Safe.{IsSafe}
 use Rattle.fx_plan.specs.Sources.{AreLawful, Stored, source_tables}
 use Rattle.fx_plan.specs.Operators.{bound_at, bound_or_now, bucket_tables, from_array, from_bucket, in_range, in_time, moment_in, no_argument, of_none, of_one, operator, row_in, text_at}
+use Rattle.fx_build.proofs.KeyLaws.{key_with_fits}
 use Rattle.fx_build.proofs.KindLaws.{of_array, of_cell, of_record, of_span, of_text}
 use Rattle.fx_build.proofs.RowCalls.{tested_safe, turned_safe}
 use Rattle.fx_build.proofs.RowLaws.{no_columns, put_fits, row_safe}
@@ -73,6 +79,11 @@ one_safe P needs x r made [] e have h = absurd have
 one_safe P needs x r made (ts ∷ us ∷ tss) e have h = absurd have.1
 one_safe P needs x r made (ts ∷ []) e have h =
     let same : have.0.0 ≡ r = cc (have.0.1, e) in h ts (subst (λ q. TablesFit q ts) same have.0.2)
+
+-- a key without entries
+pub no_labels : HasRisingLabels (record { entries = [] })
+unfolding IsStrictlySortedBy
+no_labels = tt
 
 -- ---- arguments
 
@@ -169,7 +180,7 @@ module _ (test : Tests) (stored : Stored) where
         (argument_safe (λ vs. each_fits vs (g_rec q)) (g_array (g_rec q)) args (codes "rows") items_in rows
         (λ v fit. of_array (g_rec q) v (λ y. IsSafe (λ vs. each_fits vs (g_rec q)) (items_in y)) fit (λ vs all. all)))
         (λ vs all. safe_then (AllByRecursion (RowFits q)) (TablesFit q) (each row_in (val_list vs)) (λ rows. pure (table_if (record { entries = [] }) rows)) (rows_safe vs all)
-        (λ rows fit. if_all (RowFits q) (record { entries = [] }) rows fit))
+        (λ rows fit. if_all q (record { entries = [] }) rows (no_labels, tt) fit))
 
   pub array_safe : OperatorIsSafe s.ArrayFrom
   unfolding IsLine
@@ -187,7 +198,7 @@ module _ (test : Tests) (stored : Stored) where
       (λ place args limit tss is have further. one_safe (TablesFit q) (put (codes "tables") (g_stream q) (parameters ((codes "fn", of_row q g_bool) ∷ []))) (codes "tables") q _ tss refl have
       (λ ts fit. subst (λ c. IsSafe (TablesFit q) (if c then (argument (codes "fn") args >>= (λ f. filtered (row_meaning test f) ts limit)) else Stuck)) (sym line.0)
       (argument_safe (TablesFit q) (of_row q g_bool) args (codes "fn") (λ f. filtered (row_meaning test f) ts limit) (further (codes "fn"))
-      (λ f h. filtered_safe (RowFits q) (row_meaning test f) limit (λ row k. tested_safe test limit q f row h k) ts fit)))) place L needs input r args limit tss line.1.1
+      (λ f h. filtered_safe q (row_meaning test f) limit (λ row k. tested_safe test limit q f row h k) ts fit)))) place L needs input r args limit tss line.1.1
 
   pub map_safe : OperatorIsSafe s.Map
   unfolding IsLine
@@ -197,7 +208,7 @@ module _ (test : Tests) (stored : Stored) where
       by_line s.Map w (from_tables p [] ((codes "fn", of_row p (g_rec q)) ∷ []) [] (g_stream q)) _ _ _ refl
       (λ place args limit tss is have further. one_safe (TablesFit q) (put (codes "tables") (g_stream p) (parameters ((codes "fn", of_row p (g_rec q)) ∷ []))) (codes "tables") p _ tss refl have
       (λ ts fit. argument_safe (TablesFit q) (of_row p (g_rec q)) args (codes "fn") (λ f. mapped (row_meaning test f) ts limit) (further (codes "fn"))
-      (λ f h. mapped_safe (RowFits p) (RowFits q) (row_meaning test f) limit (λ row k. turned_safe test limit p q f row is.0.3.1 h k) ts fit))) place L needs input r args limit tss line.2
+      (λ f h. mapped_safe p q (row_meaning test f) limit (λ row k. turned_safe test limit p q f row is.0.3.1 h k) ts fit))) place L needs input r args limit tss line.2
 
   -- ---- `range`
 
@@ -244,20 +255,28 @@ module _ (test : Tests) (stored : Stored) where
         at (Some (scalar.Time t)) h = tt
         at (Some _) h = absurd (false≢true h)
 
-    set_fits : (row : Row) → RowFits q row → RowFits (put (codes "_start") g_time (put (codes "_stop") g_time q)) (insert (insert row (codes "_start") (scalar.Time start)) (codes "_stop") (scalar.Time stop))
-    set_fits row fit l =
-        swapped (same_text l (codes "_start")) (same_text l (codes "_stop"))
-        (put_fits (put (codes "_start") g_time q) (insert row (codes "_start") (scalar.Time start)) (codes "_stop") g_time (scalar.Time stop) (put_fits q row (codes "_start") g_time (scalar.Time start) fit first) last l)
+    abbrev bounded_row : GroundRow
+    bounded_row = put (codes "_stop") g_time (put (codes "_start") g_time q)
+
+    set_fits : (row : Row) → RowFits q row → RowFits bounded_row (insert (insert row (codes "_start") (scalar.Time start)) (codes "_stop") (scalar.Time stop))
+    set_fits row fit =
+        put_fits (put (codes "_start") g_time q) (insert row (codes "_start") (scalar.Time start)) (codes "_stop") g_time (scalar.Time stop) (put_fits q row (codes "_start") g_time (scalar.Time start) fit first) last
+
+    key_fits : (key : Key) → KeyFits q key → KeyFits bounded_row (bounded_key start stop key)
+    key_fits key h =
+        key_with_fits (put (codes "_start") g_time q) (codes "_stop") g_time (scalar.Time stop) last (key_with key (codes "_start") (scalar.Time start)) (key_with_fits q (codes "_start") g_time (scalar.Time start) first key h)
+
+    same_row : bounded_row ≡ put (codes "_start") g_time (put (codes "_stop") g_time q)
+    same_row = λ i. λ l. (at (same_text l (codes "_stop")) (same_text l (codes "_start")) (q l)) i
       where
-        swapped : (c d : Bool) → IsTrue (is_column_of (if d then g_is g_time else (if c then g_is g_time else q l)) (get (insert (insert row (codes "_start") (scalar.Time start)) (codes "_stop") (scalar.Time stop)) l))
-            → IsTrue (is_column_of (if c then g_is g_time else (if d then g_is g_time else q l)) (get (insert (insert row (codes "_start") (scalar.Time start)) (codes "_stop") (scalar.Time stop)) l))
-        swapped true true h = h
-        swapped true false h = h
-        swapped false true h = h
-        swapped false false h = h
+        at : (c d : Bool) (f : GroundField) → (if c then g_is g_time else (if d then g_is g_time else f)) ≡ (if d then g_is g_time else (if c then g_is g_time else f))
+        at true true f = refl
+        at true false f = refl
+        at false true f = refl
+        at false false f = refl
 
     between_on : (ts : List Table) → TablesFit q ts → IsSafe (TablesFit (put (codes "_start") g_time (put (codes "_stop") g_time q))) (ranged start stop ts)
-    between_on ts fit = ranged_safe (RowFits q) (RowFits (put (codes "_start") g_time (put (codes "_stop") g_time q))) start stop timed set_fits ts fit
+    between_on ts fit = subst (λ p. IsSafe (TablesFit p) (ranged start stop ts)) same_row (ranged_safe q bounded_row start stop timed set_fits key_fits ts fit)
 
   pub range_safe : OperatorIsSafe s.Range
   unfolding IsLine

@@ -2,24 +2,26 @@
 use Rattle.std.proofs.Common.{◌≡◌, refl, sym, ap, subst, ◌∙◌, Bool, true, false, ◌&&◌, not, List, [], ◌∷◌, map, length, Some, None, T, arith}
 use Rattle.std.specs.Prelude.{cond, if◌then◌else◌, codes, IsTrue, fold, ◌==◌}
 use Rattle.std.specs.FinMap as fin
-use Rattle.std.specs.FinMap.{entries, entries_sorted, get, get-empty, get-entries, insert}
-use Rattle.std.specs.FinMap.Entries.{find, is_sorted, below_all}
+use Rattle.std.specs.FinMap.{entries, get, get-empty, insert}
+use Rattle.std.specs.FinMap.Entries.{by_order, is_sorted, is_sorted-put, put as put_entry}
 use Rattle.std.specs.List.{AllByRecursion, filter, flat_map}
-use Rattle.std.specs.Ordering.{is_eq, is_lt}
-use Rattle.std.specs.declared.cmp.Ordering.{Ordering}
+use Rattle.std.specs.List.Sorted.{IsStrictlySortedBy}
 use Rattle.std.specs.declared.cmp.Ordering.TheVariants.{Less, Equal, Greater}
-use Rattle.std.proofs.lemmas.List.{map-append}
 use Rattle.std.proofs.lemmas.Bool.{eqb-true}
-use Rattle.std.specs.Cmp.Lexicographic.{same_text as equal_text}
+use Rattle.std.specs.Cmp.Lexicographic.{nat_list_cmp_total, same_text as equal_text}
 use Rattle.std.proofs.lemmas.Bool.{and_parts}
 use mathlib.Core.Bool.{true≢false, false≢true}
 use Rattle.fx_base.specs.Text.{same_text, text_cmp}
+use Rattle.fx_value.proofs.Rows.{text_same}
 use Rattle.fx_value.specs.declared.scalar.Scalar.{Scalar}
 use Rattle.fx_types.proofs.Choices.{by_cases, chosen, passed}
 use Rattle.fx_types.specs.Ground.{GroundField, GroundRow, g_stream, g_absent, g_is, g_bool, g_int, g_text, g_time, is_plain, listed}
 use Rattle.fx_types.specs.Term.{Label}
-use Rattle.fx_data.specs.Regrouped.{alone, bare}
+use Rattle.fx_data.proofs.Sorted.{keys_rise, sorted_keys}
+use Rattle.fx_data.specs.Columns.{entry_of, parts_of}
+use Rattle.fx_data.specs.Table.{HasRisingLabels, shown}
 use Rattle.fx_data.specs.declared.key.Key.{Key}
+use Rattle.fx_data.specs.declared.key.KeyEntry.{KeyEntry}
 use Rattle.fx_data.specs.declared.keyed_row.KeyedRow.{KeyedRow}
 use Rattle.fx_data.specs.declared.table.Table.{Table}
 use Rattle.fx_data.proofs.Lawful.{all-append}
@@ -30,16 +32,17 @@ use Rattle.fx_meaning.specs.Meaning.{Tests}
 use Rattle.fx_group.proofs.Unstuck.{each_of}
 use Rattle.fx_shape.specs.Changed.{all_moved, is_bare, rows_after}
 use Rattle.fx_group.specs.Group.{is_listed as is_named}
-use Rattle.fx_shape.specs.Rename.{columns_renamed, is_covered, key_renamed, new_name, row_renamed}
+use Rattle.fx_shape.specs.Rename.{columns_renamed, entry_renamed, is_covered, key_renamed, new_name, row_renamed}
 use Rattle.fx_meaning.specs.Rows.{Row}
 use Rattle.fx_plan.specs.Operators.{renamed_by, renamed_in}
-use Rattle.fx_build.specs.Rows.{RowFits, TablesFit, is_column_of}
+use Rattle.fx_build.specs.Rows.{EntryFits, KeyFits, RowFits, TablesFit, is_column_of}
 use Rattle.fx_build.specs.Safe.{IsSafe}
 use Rattle.fx_plan.specs.Sources.{Stored}
 use Rattle.fx_build.proofs.OperatorCalls.{OperatorIsSafe, by_line, one_safe}
-use Rattle.fx_build.proofs.TableLaws.{EachRow, gathered_all}
+use Rattle.fx_build.proofs.TableLaws.{KeyedFits, regrouped_with_all}
 use Rattle.fx_build.proofs.ColumnCalls.{get_left, named_listed}
-use Rattle.fx_build.proofs.RowLaws.{get_inserted, no_columns, tied}
+use Rattle.fx_build.proofs.KeyLaws.{entries_found}
+use Rattle.fx_build.proofs.RowLaws.{get_inserted, no_columns}
 use Rattle.fx_plan.proofs.SlotLaws.{same_itself}
 
 -- ---- the type of a column under its new name
@@ -112,45 +115,6 @@ name_type (old ∷ olds) (new ∷ news) r q l e h other = at (same_text l old) r
     at true is rest = chosen (same_text new new) (r old) (named olds news r q new) (same_itself new) ∙ ap r (sym (equal_text l old is))
     at false is rest = passed (same_text (new_name olds news l) new) (r old) (named olds news r q (new_name olds news l)) (elsewhere (sym is)) ∙ rest (later (sym is))
 
--- ---- entries of a row
-
-first : (a b : Bool) → T (a && b) → T a
-first true b h = tt
-first false b h = absurd h
-
-second : (a b : Bool) → T (a && b) → T b
-second true b h = h
-second false b h = absurd h
-
-not_tied : (o : Ordering) → T (is_lt o) → is_eq o ≡ false
-not_tied Less h = refl
-not_tied Equal h = absurd h
-not_tied Greater h = absurd h
-
-later_found : (e : Label × Scalar) (all es : List (Label × Scalar)) → T (below_all text_cmp e.0 es) → AllByRecursion (λ f. find text_cmp f.0 all ≡ Some f.1) es
-    → AllByRecursion (λ f. find text_cmp f.0 (e ∷ all) ≡ Some f.1) es
-later_found e all [] below h = tt
-later_found e all (f ∷ es) below h = (
-  ap (λ c. cond c (Some e.1) (find text_cmp f.0 all)) (tied f.0 e.0 ∙ apart (same_text f.0 e.0) refl) ∙ h.0,
-  later_found e all es (second (is_lt (text_cmp e.0 f.0)) (below_all text_cmp e.0 es) below) h.1,
-)
-  where
-    apart : (c : Bool) → c ≡ same_text f.0 e.0 → same_text f.0 e.0 ≡ false
-    apart false k = sym k
-    apart true k =
-        let one = not_tied (text_cmp e.0 f.0) (first (is_lt (text_cmp e.0 f.0)) (below_all text_cmp e.0 es) below) in
-        absurd (false≢true (sym one ∙ tied e.0 f.0 ∙ subst (λ z. same_text e.0 z ≡ true) (sym (equal_text f.0 e.0 k)) (same_itself e.0)))
-
-all_found : (es : List (Label × Scalar)) → T (is_sorted text_cmp es) → AllByRecursion (λ e. find text_cmp e.0 es ≡ Some e.1) es
-all_found [] h = tt
-all_found (e ∷ es) h = (
-  ap (λ c. cond c (Some e.1) (find text_cmp e.0 es)) (tied e.0 e.0 ∙ same_itself e.0),
-  later_found e es es (first (below_all text_cmp e.0 es) (is_sorted text_cmp es) h) (all_found es (second (below_all text_cmp e.0 es) (is_sorted text_cmp es) h)),
-)
-
-entries_found : (row : Row) → AllByRecursion (λ e. get row e.0 ≡ Some e.1) (entries row)
-entries_found row = each_of (λ e. find text_cmp e.0 (entries row) ≡ Some e.1) (λ e. get row e.0 ≡ Some e.1) (λ e h. get-entries row e.0 ∙ h) (entries row) (all_found (entries row) (entries_sorted row))
-
 -- ---- the renamed row
 
 plain_null : (f : GroundField) → IsTrue (is_plain f) → IsTrue (is_column_of f None)
@@ -164,7 +128,7 @@ plain_null (g_is _) h = absurd (false≢true h)
 pub nothing_fits : (q : GroundRow) → ((l : Label) → IsTrue (is_plain (q l))) → RowFits q no_columns
 nothing_fits q plain l = subst (λ o. IsTrue (is_column_of (q l) o)) (sym (get-empty text_cmp l)) (plain_null (q l) (plain l))
 
-set_fits : (q : GroundRow) (out : Row) (x : Label) (a : Scalar) → RowFits q out → IsTrue (is_column_of (q x) (Some a)) → RowFits q (insert out x a)
+pub set_fits : (q : GroundRow) (out : Row) (x : Label) (a : Scalar) → RowFits q out → IsTrue (is_column_of (q x) (Some a)) → RowFits q (insert out x a)
 set_fits q out x a fit is l = subst (λ o. IsTrue (is_column_of (q l) o)) (sym (get_inserted out x a l)) (at (same_text l x) refl)
   where
     at : (c : Bool) → c ≡ same_text l x → IsTrue (is_column_of (q l) (if c then Some a else get out l))
@@ -204,30 +168,130 @@ module _ (olds news : List Label) (r : GroundRow) (same : length olds ≡ length
       fold_fits (entries left) no_columns (nothing_fits made plain)
       (each_of (λ e. get left e.0 ≡ Some e.1) (λ e. IsTrue (is_column_of (made (new_name olds news e.0)) (Some e.1))) (entry_fits row fit) (entries left) (entries_found left))
 
+-- ---- the renamed key
+
+-- labels of some entries rise too
+
+above_kept : (p : KeyEntry → Bool) (x : Label) (es : List KeyEntry) → AllByRecursion (λ l. text_cmp x l ≡ Less) (map (λ e. e.label) es) → AllByRecursion (λ l. text_cmp x l ≡ Less) (map (λ e. e.label) (filter p es))
+above_kept p x [] h = tt
+above_kept p x (e ∷ es) h =
+    elim (p e) as (λ b. AllByRecursion (λ l. text_cmp x l ≡ Less) (map (λ (d : KeyEntry). d.label) (cond b (e ∷ filter p es) (filter p es)))) [
+      | true ↦ (h.0, above_kept p x es h.1)
+      | false ↦ above_kept p x es h.1
+    ]
+
+rises_kept : (p : KeyEntry → Bool) (es : List KeyEntry) → IsStrictlySortedBy text_cmp (map (λ e. e.label) es) → IsStrictlySortedBy text_cmp (map (λ e. e.label) (filter p es))
+unfolding IsStrictlySortedBy
+rises_kept p [] h = tt
+rises_kept p (e ∷ es) h =
+    elim (p e) as (λ b. IsStrictlySortedBy text_cmp (map (λ (d : KeyEntry). d.label) (cond b (e ∷ filter p es) (filter p es)))) [
+      | true ↦ (above_kept p e.label es h.0, rises_kept p es h.1)
+      | false ↦ rises_kept p es h.1
+    ]
+
+abbrev Parts : Type 0
+Parts = List (Label × (Scalar × Bool))
+
+labels_of_parts : (es : List KeyEntry) → map (λ e. e.label) es ≡ map (λ p. p.0) (map parts_of es)
+labels_of_parts [] = refl
+labels_of_parts (e ∷ es) = ap (λ ls. e.label ∷ ls) (labels_of_parts es)
+
+labels_of_entries : (ps : Parts) → map (λ p. p.0) ps ≡ map (λ e. e.label) (map entry_of ps)
+labels_of_entries [] = refl
+labels_of_entries (p ∷ ps) = ap (λ ls. p.0 ∷ ls) (labels_of_entries ps)
+
+put_sorted : (es : List KeyEntry) (ps : Parts) → T (is_sorted text_cmp ps) → T (is_sorted text_cmp (fold (λ out e. put_entry text_cmp e.label (e.value, e.pinned) out) ps es))
+put_sorted [] ps h = h
+put_sorted (e ∷ es) ps h = put_sorted es (put_entry text_cmp e.label (e.value, e.pinned) ps) (is_sorted-put text_cmp nat_list_cmp_total e.label (e.value, e.pinned) ps h)
+
+key_rises : (olds news : List Label) (key : Key) → HasRisingLabels key → HasRisingLabels (key_renamed olds news key)
+key_rises olds news key h =
+    let into = filter (λ e. e.pinned) key.entries in
+    let sorted = sorted_keys text_cmp (map parts_of into) (subst (IsStrictlySortedBy text_cmp) (labels_of_parts into) (rises_kept (λ e. e.pinned) key.entries h)) in
+    let es = map (entry_renamed olds news) (filter (λ e. not e.pinned && not (is_covered olds news e.label)) key.entries) in
+    subst (IsStrictlySortedBy text_cmp) (labels_of_entries _) (keys_rise text_cmp _ (put_sorted es (map parts_of into) sorted))
+
+module _ (q : GroundRow) where
+  abbrev PartFits : Label × (Scalar × Bool) → Type 0
+  PartFits p = EntryFits q (entry_of p)
+
+  part_put : (x : Label) (v : Scalar × Bool) (ps : Parts) → PartFits (x, v) → AllByRecursion PartFits ps → AllByRecursion PartFits (put_entry text_cmp x v ps)
+  part_put x v [] is h = (is, tt)
+  part_put x v (p ∷ ps) is h =
+      elim (text_cmp x p.0) as (λ o. text_cmp x p.0 ≡ o → AllByRecursion PartFits (by_order o ((x, v) ∷ p ∷ ps) ((p.0, v) ∷ ps) (p ∷ put_entry text_cmp x v ps))) [
+        | Less ↦ λ o. (is, h)
+        | Equal ↦ λ o. (subst (λ l. PartFits (l, v)) (text_same x p.0 o) is, h.1)
+        | Greater ↦ λ o. (h.0, part_put x v ps is h.1)
+      ] refl
+
+  parts_put : (es : List KeyEntry) (ps : Parts) → AllByRecursion (EntryFits q) es → AllByRecursion PartFits ps → AllByRecursion PartFits (fold (λ out e. put_entry text_cmp e.label (e.value, e.pinned) out) ps es)
+  parts_put [] ps h all = all
+  parts_put (e ∷ es) ps h all = parts_put es (put_entry text_cmp e.label (e.value, e.pinned) ps) h.1 (part_put e.label (e.value, e.pinned) ps h.0 all)
+
+  of_parts : (ps : Parts) → AllByRecursion PartFits ps → AllByRecursion (EntryFits q) (map entry_of ps)
+  of_parts [] h = tt
+  of_parts (p ∷ ps) h = (h.0, of_parts ps h.1)
+
+  in_parts : (es : List KeyEntry) → AllByRecursion (EntryFits q) es → AllByRecursion PartFits (map parts_of es)
+  in_parts [] h = tt
+  in_parts (e ∷ es) h = (h.0, in_parts es h.1)
+
+  -- nothing that is pinned shows
+  pinned_fit : ((l : Label) → IsTrue (is_plain (q l))) → (es : List KeyEntry) → AllByRecursion (EntryFits q) (filter (λ e. e.pinned) es)
+  pinned_fit plain [] = tt
+  pinned_fit plain (e ∷ es) = step e.pinned refl (pinned_fit plain es)
+    where
+      step : (c : Bool) → c ≡ e.pinned → AllByRecursion (EntryFits q) (filter (λ e. e.pinned) es) → AllByRecursion (EntryFits q) (cond c (e ∷ filter (λ e. e.pinned) es) (filter (λ e. e.pinned) es))
+      step true k rest = (subst (λ b. IsTrue (is_column_of (q e.label) (if b then None else Some e.value))) k (plain_null (q e.label) (plain e.label)), rest)
+      step false k rest = rest
+
+module _ (olds news : List Label) (r : GroundRow) (same : length olds ≡ length news) (once : differ news ≡ true) where
+  columns_fit : (es : List KeyEntry) → AllByRecursion (EntryFits r) es
+      → AllByRecursion (EntryFits (made olds news r same once)) (map (entry_renamed olds news) (filter (λ e. not e.pinned && not (is_covered olds news e.label)) es))
+  columns_fit [] h = tt
+  columns_fit (e ∷ es) h = step (not e.pinned && not (is_covered olds news e.label)) refl (columns_fit es h.1)
+    where
+      step : (c : Bool) → c ≡ (not e.pinned && not (is_covered olds news e.label))
+          → AllByRecursion (EntryFits (made olds news r same once)) (map (entry_renamed olds news) (filter (λ e. not e.pinned && not (is_covered olds news e.label)) es))
+          → AllByRecursion (EntryFits (made olds news r same once)) (map (entry_renamed olds news) (cond c (e ∷ filter (λ e. not e.pinned && not (is_covered olds news e.label)) es) (filter (λ e. not e.pinned && not (is_covered olds news e.label)) es)))
+      step true k rest = (
+        subst (λ f. IsTrue (is_column_of f (shown e))) (sym (kept_type olds news r same once e.label (and_parts (not e.pinned) (not (is_covered olds news e.label)) (sym k)).1)) h.0,
+        rest,
+      )
+      step false k rest = rest
+
+  pub key_fits : ((l : Label) → IsTrue (is_plain (made olds news r same once l))) → (key : Key) → KeyFits r key → KeyFits (made olds news r same once) (key_renamed olds news key)
+  key_fits plain key h =
+      let q = made olds news r same once in
+      (
+        key_rises olds news key h.0,
+        of_parts q _ (parts_put q _ _ (columns_fit key.entries h.1) (in_parts q _ (pinned_fit q plain key.entries))),
+      )
+
 -- ---- tables
 
-module _ (P Q : Row → Type 0) (key : Key → Key) (change : Row → Row) (changes : (row : Row) → P row → Q (change row)) where
+module _ (p q : GroundRow) (key : Key → Key) (change : Row → Row) (key_moves : (k : Key) → KeyFits p k → KeyFits q (key k)) (changes : (row : Row) → RowFits p row → RowFits q (change row)) where
   abbrev keyed : Key → Row → KeyedRow
   keyed k r = record { key = key k; row = change r }
 
-  rows_moved : (k : Key) (rows : List Row) → AllByRecursion P rows → EachRow Q (map alone (map (λ r. keyed k r) rows))
-  rows_moved k [] h = tt
-  rows_moved k (row ∷ rows) h = ((changes row h.0, tt), rows_moved k rows h.1)
+  rows_moved : (k : Key) (rows : List Row) → HasRisingLabels (key k) → AllByRecursion (RowFits p) rows → AllByRecursion (KeyedFits q) (map (λ r. keyed k r) rows)
+  rows_moved k [] rising h = tt
+  rows_moved k (row ∷ rows) rising h = ((rising, changes row h.0), rows_moved k rows rising h.1)
 
-  tables_moved : (tables : List Table) → EachRow P tables → EachRow Q (map alone (flat_map (rows_after key change) tables))
+  tables_moved : (tables : List Table) → TablesFit p tables → AllByRecursion (KeyedFits q) (flat_map (rows_after key change) tables)
   tables_moved [] h = tt
-  tables_moved (t ∷ tables) h =
-      subst (EachRow Q) (sym (map-append alone (rows_after key change t) (flat_map (rows_after key change) tables)))
-      (all-append (λ t. AllByRecursion Q t.rows) (map alone (rows_after key change t)) _ (rows_moved t.key t.rows h.0) (tables_moved tables h.1))
+  tables_moved (t ∷ tables) h = all-append (KeyedFits q) (rows_after key change t) _ (rows_moved t.key t.rows (key_moves t.key h.0.0).0 h.0.1) (tables_moved tables h.1)
 
-  bare_moved : (keys : List Key) → EachRow Q (map bare keys)
-  bare_moved [] = tt
-  bare_moved (k ∷ keys) = (tt, bare_moved keys)
+  bare_moved : (tables : List Table) → TablesFit p tables → AllByRecursion (KeyFits q) (map (λ t. key t.key) (filter is_bare tables))
+  bare_moved [] h = tt
+  bare_moved (t ∷ tables) h =
+      elim (is_bare t) as (λ b. AllByRecursion (KeyFits q) (map (λ (t : Table). key t.key) (cond b (t ∷ filter is_bare tables) (filter is_bare tables)))) [
+        | true ↦ (key_moves t.key h.0.0, bare_moved tables h.1)
+        | false ↦ bare_moved tables h.1
+      ]
 
-  pub moved_all : (tables : List Table) → EachRow P tables → EachRow Q (all_moved key change tables)
-  moved_all tables h =
-      gathered_all Q _ (all-append (λ t. AllByRecursion Q t.rows) (map alone (flat_map (rows_after key change) tables)) _ (tables_moved tables h)
-      (bare_moved (map (λ t. key t.key) (filter is_bare tables))))
+  pub moved_all : (tables : List Table) → TablesFit p tables → TablesFit q (all_moved key change tables)
+  moved_all tables h = regrouped_with_all q _ _ (tables_moved tables h) (bare_moved tables h)
 
 pub rename_safe : (test : Tests) (stored : Stored) → OperatorIsSafe test stored s.Rename
 unfolding IsLine columns_renamed
@@ -241,4 +305,4 @@ rename_safe test stored place w L needs input r args limit tss line =
     by_line test stored s.Rename w (from_tables q (codes "columns" ∷ []) [] [] (g_stream out)) _ _ _ refl
     (λ place args limit tss is have further. one_safe (TablesFit out) (put (codes "tables") (g_stream q) (parameters [])) (codes "tables") q (renamed_in w) tss refl have
     (λ ts fit. subst (λ o. IsSafe (TablesFit out) (renamed_by o ts)) (sym line.1)
-    (moved_all (RowFits q) (RowFits out) (key_renamed g.words g.news) (row_renamed g.words g.news) (λ row h. renamed_fits g.words g.news q same once is.0.3.1 row h) ts fit))) place L needs input r args limit tss line.2.1.2
+    (moved_all q out (key_renamed g.words g.news) (row_renamed g.words g.news) (λ key h. key_fits g.words g.news q same once is.0.3.1 key h) (λ row h. renamed_fits g.words g.news q same once is.0.3.1 row h) ts fit))) place L needs input r args limit tss line.2.1.2

@@ -13,6 +13,7 @@ use Rattle.fx_value.specs.declared.scalar.Scalar.TheVariants as scalar
 use Rattle.fx_types.specs.Ground.{GroundRow, g_int, g_span, g_stream, g_time, g_is}
 use Rattle.fx_types.specs.Term.{Label}
 use Rattle.fx_data.specs.Regrouped.{regrouped}
+use Rattle.fx_data.specs.Table.{HasRisingLabels}
 use Rattle.fx_data.specs.declared.key.Key.{Key}
 use Rattle.fx_data.specs.declared.table.Table.{Table}
 use Rattle.fx_shape.specs.Run.{keyed}
@@ -30,7 +31,7 @@ use Rattle.fx_plan.specs.Operators.{at_listed, passed_in, second, span_or}
 use Rattle.fx_plan.specs.Sources.{Stored}
 use Rattle.fx_build.specs.Bound.{typed}
 use Rattle.fx_build.specs.Fit.{fits, keeps_at}
-use Rattle.fx_build.specs.Rows.{RowFits, TablesFit, is_column_of}
+use Rattle.fx_build.specs.Rows.{RowFits, TableFits, TablesFit, is_column_of}
 use Rattle.fx_build.specs.Safe.{IsSafe}
 use Rattle.fx_build.proofs.ColumnCalls.{again_fits, word_safe}
 use Rattle.fx_build.proofs.KindLaws.{of_span}
@@ -38,32 +39,32 @@ use Rattle.fx_build.proofs.OperatorCalls.{OperatorIsSafe, by_line, one_safe}
 use Rattle.fx_build.proofs.RowLaws.{put_fits}
 use Rattle.fx_build.proofs.SafeLaws.{safe_then}
 use Rattle.fx_build.proofs.SlotLaws.{AtSlot, keeps_out}
-use Rattle.fx_build.proofs.TableLaws.{EachRow, flat_each_safe, regrouped_all}
+use Rattle.fx_build.proofs.TableLaws.{KeyedFits, flat_each_safe, regrouped_all}
 
 -- ---- rows in order
 
-module _ (P Q : Row → Type 0) (come : Option ℤ → Option ℤ → Option ℤ) (read : Row → End (Option ℤ)) (make : Option ℤ → Option ℤ → Row → End (List Row))
-    (reads : (row : Row) → P row → IsSafe (λ n. Unit {0}) (read row)) (makes : (before n : Option ℤ) (row : Row) → P row → IsSafe (AllByRecursion Q) (make before n row)) where
-  before_all : (before : Option ℤ) (rows : List Row) → AllByRecursion P rows → AllByRecursion (λ e. P e.1) (with_before come read before rows)
+module _ (p q : GroundRow) (come : Option ℤ → Option ℤ → Option ℤ) (read : Row → End (Option ℤ)) (make : Option ℤ → Option ℤ → Row → End (List Row))
+    (reads : (row : Row) → RowFits p row → IsSafe (λ n. Unit {0}) (read row)) (makes : (before n : Option ℤ) (row : Row) → RowFits p row → IsSafe (AllByRecursion (RowFits q)) (make before n row)) where
+  before_all : (before : Option ℤ) (rows : List Row) → AllByRecursion (RowFits p) rows → AllByRecursion (λ e. RowFits p e.1) (with_before come read before rows)
   before_all before [] h = tt
   before_all before (row ∷ rows) h = (h.0, before_all (come before (got (read row))) rows h.1)
 
-  row_safe : (e : Option ℤ × Row) → P e.1 → IsSafe (AllByRecursion Q) (ran_row come read make e)
-  row_safe (before, row) h = safe_then (λ n. Unit {0}) (AllByRecursion Q) (read row) (λ n. make before n row) (reads row h) (λ n _. makes before n row h)
+  row_safe : (e : Option ℤ × Row) → RowFits p e.1 → IsSafe (AllByRecursion (RowFits q)) (ran_row come read make e)
+  row_safe (before, row) h = safe_then (λ n. Unit {0}) (AllByRecursion (RowFits q)) (read row) (λ n. make before n row) (reads row h) (λ n _. makes before n row h)
 
-  keyed_all : (key : Key) (rows : List Row) → AllByRecursion Q rows → AllByRecursion (λ r. Q r.row) (keyed key rows)
-  keyed_all key [] h = tt
-  keyed_all key (row ∷ rows) h = (h.0, keyed_all key rows h.1)
+  keyed_all : (key : Key) (rows : List Row) → HasRisingLabels key → AllByRecursion (RowFits q) rows → AllByRecursion (KeyedFits q) (keyed key rows)
+  keyed_all key [] rising h = tt
+  keyed_all key (row ∷ rows) rising h = ((rising, h.0), keyed_all key rows rising h.1)
 
-  table_safe : (t : Table) → AllByRecursion P t.rows → IsSafe (AllByRecursion (λ r. Q r.row)) (ran_table come read make t)
+  table_safe : (t : Table) → TableFits p t → IsSafe (AllByRecursion (KeyedFits q)) (ran_table come read make t)
   table_safe t h =
-      safe_then (AllByRecursion Q) (AllByRecursion (λ r. Q r.row)) (ran_rows come read make None t.rows) (λ rows. Gives (keyed t.key rows) 0)
-      (flat_each_safe (λ e. P e.1) Q (ran_row come read make) (with_before come read None t.rows) (before_all None t.rows h) row_safe) (λ rows all. keyed_all t.key rows all)
+      safe_then (AllByRecursion (RowFits q)) (AllByRecursion (KeyedFits q)) (ran_rows come read make None t.rows) (λ rows. Gives (keyed t.key rows) 0)
+      (flat_each_safe (λ e. RowFits p e.1) (RowFits q) (ran_row come read make) (with_before come read None t.rows) (before_all None t.rows h.1) row_safe) (λ rows all. keyed_all t.key rows h.0.0 all)
 
-  pub ran_safe : (tables : List Table) → EachRow P tables → IsSafe (EachRow Q) (ran come read make tables)
+  pub ran_safe : (tables : List Table) → TablesFit p tables → IsSafe (TablesFit q) (ran come read make tables)
   ran_safe tables h =
-      safe_then (AllByRecursion (λ r. Q r.row)) (EachRow Q) (ran_tables come read make tables) (λ rows. Gives (regrouped rows) 0)
-      (flat_each_safe (λ t. AllByRecursion P t.rows) (λ r. Q r.row) (ran_table come read make) tables h table_safe) (λ rows all. regrouped_all Q rows all)
+      safe_then (AllByRecursion (KeyedFits q)) (TablesFit q) (ran_tables come read make tables) (λ rows. Gives (regrouped rows) 0)
+      (flat_each_safe (TableFits p) (KeyedFits q) (ran_table come read make) tables h table_safe) (λ rows all. regrouped_all q rows all)
 
 -- ---- numbers that are read and written
 
@@ -104,11 +105,11 @@ module _ (place : Place) (r : GroundRow) (x : Label) (has : r x ≡ g_is g_int) 
 
   pub differenced_safe : (tables : List Table) → TablesFit r tables → IsSafe (TablesFit r) (differenced place x tables)
   unfolding differenced
-  differenced_safe tables fit = ran_safe (RowFits r) (RowFits r) latest (λ row. int_of (get row x)) (less_last place x) (int_read r x has) less_safe tables fit
+  differenced_safe tables fit = ran_safe r r latest (λ row. int_of (get row x)) (less_last place x) (int_read r x has) less_safe tables fit
 
   pub cumulated_safe : (tables : List Table) → TablesFit r tables → IsSafe (TablesFit r) (cumulated place x tables)
   unfolding cumulated
-  cumulated_safe tables fit = ran_safe (RowFits r) (RowFits r) summed (λ row. int_of (get row x)) (with_sum place x) (int_read r x has) sum_safe tables fit
+  cumulated_safe tables fit = ran_safe r r summed (λ row. int_of (get row x)) (with_sum place x) (int_read r x has) sum_safe tables fit
 
 module _ (place : Place) (r : GroundRow) (x y : Label) (has : r x ≡ g_is g_time) where
   since_safe : (unit : ℤ) (before time : Option ℤ) (row : Row) → RowFits r row → IsSafe (AllByRecursion (RowFits (put y g_int r))) (since_last place unit y before time row)
@@ -122,7 +123,7 @@ module _ (place : Place) (r : GroundRow) (x y : Label) (has : r x ≡ g_is g_tim
   passed_safe unit tables fit = at (is_unit unit)
     where
       at : (c : Bool) → IsSafe (TablesFit (put y g_int r)) (if c then ran latest (λ row. time_of (get row x)) (since_last place unit.nanos y) tables else Faults (record { kind = BadWindow; place = place }) 0)
-      at true = ran_safe (RowFits r) (RowFits (put y g_int r)) latest (λ row. time_of (get row x)) (since_last place unit.nanos y) (time_read r x has) (since_safe unit.nanos) tables fit
+      at true = ran_safe r (put y g_int r) latest (λ row. time_of (get row x)) (since_last place unit.nanos y) (time_read r x has) (since_safe unit.nanos) tables fit
       at false = tt
 
 -- ---- durations

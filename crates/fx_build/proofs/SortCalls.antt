@@ -6,7 +6,7 @@ use Rattle.std.specs.Ordering.{is_gt}
 use Rattle.std.specs.declared.cmp.Ordering.{Ordering}
 use Rattle.fx_base.specs.declared.place.Place.{Place}
 use Rattle.fx_value.specs.declared.scalar.Kind.TheVariants as kind
-use Rattle.fx_types.specs.Ground.{g_bool, g_stream}
+use Rattle.fx_types.specs.Ground.{GroundRow, g_bool, g_stream}
 use Rattle.fx_types.specs.Term.{Label}
 use Rattle.fx_data.specs.declared.table.Table.{Table}
 use Rattle.fx_schemes.specs.Builtins.{IsLine}
@@ -29,7 +29,6 @@ use Rattle.fx_build.proofs.KindLaws.{of_cell, of_flag}
 use Rattle.fx_build.proofs.OperatorCalls.{OperatorIsSafe, by_line, one_safe}
 use Rattle.fx_build.proofs.SafeLaws.{safe_then}
 use Rattle.fx_build.proofs.SlotLaws.{AtSlot, keeps_out}
-use Rattle.fx_build.proofs.TableLaws.{EachRow}
 
 module _ (P : Row → Type 0) where
   step_all : (c : Bool) (row next : Row) (rows rest : List Row) → P row → P next → AllByRecursion P rows → AllByRecursion P rest → AllByRecursion P (if c then next ∷ rest else row ∷ next ∷ rows)
@@ -44,10 +43,10 @@ module _ (P : Row → Type 0) where
   order_all cmp [] h = tt
   order_all cmp (row ∷ rows) h = placed_all cmp row (in_order cmp rows) h.0 (order_all cmp rows h.1)
 
-  pub sorted_all : (columns : List Label) (desc : Bool) (tables : List Table) → EachRow P tables → EachRow P (rows_sorted columns desc tables)
-  unfolding rows_sorted
-  sorted_all columns desc [] h = tt
-  sorted_all columns desc (t ∷ tables) h = (order_all (directed_cmp desc columns) t.rows h.0, sorted_all columns desc tables h.1)
+pub sorted_all : (r : GroundRow) (columns : List Label) (desc : Bool) (tables : List Table) → TablesFit r tables → TablesFit r (rows_sorted columns desc tables)
+unfolding rows_sorted
+sorted_all r columns desc [] h = tt
+sorted_all r columns desc (t ∷ tables) h = ((h.0.0, order_all (RowFits r) (directed_cmp desc columns) t.rows h.0.1), sorted_all r columns desc tables h.1)
 
 flag_safe : (place : Place) (v : Val) → fits v g_bool → IsSafe (λ b. Unit {0}) (flag_at place v)
 flag_safe place v h = of_cell kind.Bool v (λ y. IsSafe (λ b. Unit {0}) (flag_at place y)) h (λ a is. of_flag a (λ c. IsSafe (λ b. Unit {0}) (flag_at place (cell c))) is tt (λ b. tt))
@@ -68,4 +67,4 @@ sort_safe test stored place w L needs input r args limit tss line =
     (λ place args limit tss is have further. one_safe (TablesFit q) (put (codes "tables") (g_stream q) (parameters [])) (codes "tables") q (sorted_in w place args) tss refl have
     (λ ts fit. word_safe (TablesFit q) (list_at w (codes "columns") (Some (codes "_value" ∷ []))) xs (λ columns. flag_or_false place (look (codes "desc") args) >>= (λ desc. pure (rows_sorted columns desc ts))) line.1
     (safe_then (λ b. Unit {0}) (TablesFit q) (flag_or_false place (look (codes "desc") args)) (λ desc. pure (rows_sorted xs desc ts)) (desc_safe place args (further (codes "desc")))
-    (λ desc _. sorted_all (RowFits q) xs desc ts fit)))) place L needs input r args limit tss line.2.2
+    (λ desc _. sorted_all q xs desc ts fit)))) place L needs input r args limit tss line.2.2

@@ -27,11 +27,13 @@ use Rattle.fx_plan.specs.Said.{said_in}
 use Rattle.fx_plan.specs.Operators.{operator}
 use Rattle.fx_plan.specs.Sources.{AreLawful, Stored}
 use Rattle.fx_plan.specs.Streams.{all_listed, counted, inputs_listed, inputs_run, is_listed, is_source, operator_run, size_of, sizes_of, stream_meaning, stream_run, yield_meaning}
+use Rattle.fx_build.proofs.AggregateCalls.{count_safe, distinct_safe, spread_safe, sum_safe}
 use Rattle.fx_build.proofs.ChoiceCalls.{first_safe, last_safe, max_safe, min_safe}
 use Rattle.fx_build.proofs.FoldCalls.{reduce_safe}
 use Rattle.fx_build.proofs.ColumnCalls.{drop_safe, duplicate_safe, fill_safe, group_safe, keep_safe, limit_safe, set_safe, tail_safe, union_safe}
 use Rattle.fx_build.proofs.JoinCalls.{full_safe, inner_safe, left_safe, right_safe, time_safe}
 use Rattle.fx_build.proofs.OperatorCalls.{AreTables, HaveTables, OperatorIsSafe, array_safe, bools_safe, filter_safe, from_safe, map_safe, range_safe, texts_safe}
+use Rattle.fx_build.proofs.PivotCalls.{pivot_safe}
 use Rattle.fx_build.proofs.RenameCalls.{rename_safe}
 use Rattle.fx_build.proofs.RunningCalls.{cumulative_safe, difference_safe, elapsed_safe}
 use Rattle.fx_build.proofs.SafeLaws.{safe_as, safe_cut, safe_later, safe_then}
@@ -88,6 +90,11 @@ module _ (test : Tests) (stored : Stored) (lawful : AreLawful stored) where
   operator_safe s.CumulativeSum listed = cumulative_safe test stored
   operator_safe s.Elapsed listed = elapsed_safe test stored
   operator_safe s.Window listed = window_safe test stored
+  operator_safe s.Pivot listed = pivot_safe test stored
+  operator_safe s.Count listed = count_safe test stored
+  operator_safe s.Sum listed = sum_safe test stored
+  operator_safe s.Spread listed = spread_safe test stored
+  operator_safe s.Distinct listed = distinct_safe test stored
   operator_safe _ listed = absurd (false≢true listed)
 
   counted_safe : (g : StreamFn) (r : GroundRow) (received : List (List Table)) (made : End (List Table)) → IsSafe (TablesFit r) made → IsSafe (TablesFit r) (counted g received made)

@@ -17,12 +17,14 @@ use Rattle.fx_value.specs.declared.scalar.Scalar.TheVariants as scalar
 use Rattle.fx_ops.specs.Whole.{in_64_bits}
 use Rattle.fx_types.specs.Ground.{GroundRow, g_span, g_stream, g_time, g_is}
 use Rattle.fx_types.specs.Term.{Label}
+use Rattle.fx_data.proofs.Columns.{key_with_rises}
 use Rattle.fx_data.proofs.Lawful.{all-append}
+use Rattle.fx_data.specs.Columns.{key_with}
 use Rattle.fx_data.specs.Regrouped.{regrouped}
+use Rattle.fx_data.specs.Table.{HasRisingLabels}
 use Rattle.fx_data.specs.declared.key.Key.{Key}
-use Rattle.fx_data.specs.declared.keyed_row.KeyedRow.{KeyedRow}
 use Rattle.fx_data.specs.declared.table.Table.{Table}
-use Rattle.fx_group.specs.RangeRows.{set_row}
+use Rattle.fx_group.specs.RangeRows.{bounded_key, set_row}
 use Rattle.fx_window.specs.Clip.{lowered, raised}
 use Rattle.fx_window.specs.Lengths.{are_lengths}
 use Rattle.fx_window.specs.Numbers.{numbers}
@@ -39,13 +41,13 @@ use Rattle.fx_meaning.specs.Rows.{Row}
 use Rattle.fx_meaning.specs.Value.{look}
 use Rattle.fx_plan.specs.Operators.{in_windows, row_count, span_or}
 use Rattle.fx_plan.specs.Sources.{Stored}
-use Rattle.fx_build.specs.Rows.{RowFits, TablesFit, is_column_of}
+use Rattle.fx_build.specs.Rows.{RowFits, TableFits, TablesFit, is_column_of}
 use Rattle.fx_build.specs.Safe.{IsSafe}
 use Rattle.fx_build.proofs.ColumnCalls.{again_fits}
 use Rattle.fx_build.proofs.OperatorCalls.{OperatorIsSafe, argument_safe, by_line, one_safe}
 use Rattle.fx_build.proofs.RunningCalls.{span_in_safe, span_or_safe}
 use Rattle.fx_build.proofs.SafeLaws.{safe_then}
-use Rattle.fx_build.proofs.TableLaws.{flat_each_safe, regrouped_all}
+use Rattle.fx_build.proofs.TableLaws.{KeyedFits, flat_each_safe, regrouped_all}
 
 -- ---- lists
 
@@ -110,6 +112,10 @@ module _ (r : GroundRow) (bounds : HasBounds r) where
   set_fits start stop row first last fit =
       again_fits r (insert row (codes "_start") (scalar.Time start)) (codes "_stop") g_time (scalar.Time stop) bounds.2 (again_fits r row (codes "_start") g_time (scalar.Time start) bounds.1 fit first) last
 
+-- the labels of the key with both bounds rise
+pub bounded_rises : (start stop : ℤ) (key : Key) → HasRisingLabels key → HasRisingLabels (bounded_key start stop key)
+bounded_rises start stop key h = key_with_rises (key_with key (codes "_start") (scalar.Time start)) (codes "_stop") (scalar.Time stop) (key_with_rises key (codes "_start") (scalar.Time start) h)
+
 -- ---- windows
 
 -- what is clipped lies between times
@@ -121,29 +127,29 @@ lowered_in : (high stop t : ℤ) → IsTrue (in_64_bits high) → IsTrue (in_64_
 lowered_in high stop t h k l = grind (arith, ints)
 
 module _ (r : GroundRow) (bounds : HasBounds r) (every period : Span) where
-  copy_fits : (key : Key) (p : Placed) → IsPlaced r p → (k : ℤ) → AllByRecursion (λ x. RowFits r x.row) (copy_in every period key p k)
-  copy_fits key p h k = at (int_le (raised every p.at.low k) p.at.time && int_lt p.at.time (lowered every period p.at.high k)) refl
+  copy_fits : (key : Key) (p : Placed) → HasRisingLabels key → IsPlaced r p → (k : ℤ) → AllByRecursion (KeyedFits r) (copy_in every period key p k)
+  copy_fits key p rising h k = at (int_le (raised every p.at.low k) p.at.time && int_lt p.at.time (lowered every period p.at.high k)) refl
     where
       at : (c : Bool) → c ≡ (int_le (raised every p.at.low k) p.at.time && int_lt p.at.time (lowered every period p.at.high k))
-          → AllByRecursion (λ x. RowFits r x.row) (if c then set_row (raised every p.at.low k) (lowered every period p.at.high k) key p.row ∷ [] else [])
+          → AllByRecursion (KeyedFits r) (if c then set_row (raised every p.at.low k) (lowered every period p.at.high k) key p.row ∷ [] else [])
       at true e =
           let both = and_parts (int_le (raised every p.at.low k) p.at.time) (int_lt p.at.time (lowered every period p.at.high k)) (sym e) in
           (
-            set_fits r bounds (raised every p.at.low k) (lowered every period p.at.high k) p.row (raised_in p.at.low (window_start every k) p.at.time h.1.1 h.1.0 both.0)
-            (lowered_in p.at.high (window_stop every period k) p.at.time h.1.2 h.1.0 both.1) h.0,
+            (bounded_rises (raised every p.at.low k) (lowered every period p.at.high k) key rising, set_fits r bounds (raised every p.at.low k) (lowered every period p.at.high k) p.row (raised_in p.at.low (window_start every k) p.at.time h.1.1 h.1.0 both.0)
+            (lowered_in p.at.high (window_stop every period k) p.at.time h.1.2 h.1.0 both.1) h.0),
             tt,
           )
       at false e = tt
 
-  pub copies_fit : (key : Key) (ps : List Placed) → AllByRecursion (IsPlaced r) ps → AllByRecursion (λ x. RowFits r x.row) (flat_map (copies every period key) ps)
-  copies_fit key ps h =
-      each_made (IsPlaced r) (λ x. RowFits r x.row) (copies every period key)
-      (λ p is. every_made (λ x. RowFits r x.row) (copy_in every period key p) (copy_fits key p is) (numbers (last_stopped every period p.at.time +ℤ pos 1) (last_started every p.at.time +ℤ pos 1))) ps h
+  pub copies_fit : (key : Key) (ps : List Placed) → HasRisingLabels key → AllByRecursion (IsPlaced r) ps → AllByRecursion (KeyedFits r) (flat_map (copies every period key) ps)
+  copies_fit key ps rising h =
+      each_made (IsPlaced r) (KeyedFits r) (copies every period key)
+      (λ p is. every_made (KeyedFits r) (copy_in every period key p) (copy_fits key p rising is) (numbers (last_stopped every period p.at.time +ℤ pos 1) (last_started every p.at.time +ℤ pos 1))) ps h
 
-  table_safe : (t : Table) → AllByRecursion (RowFits r) t.rows → IsSafe (AllByRecursion (λ x. RowFits r x.row)) (windowed_table every period t)
+  table_safe : (t : Table) → TableFits r t → IsSafe (AllByRecursion (KeyedFits r)) (windowed_table every period t)
   table_safe t fit =
-      safe_then (AllByRecursion (IsPlaced r)) (AllByRecursion (λ x. RowFits r x.row)) (placed_rows t.rows) (λ ps. Gives (flat_map (copies every period t.key) ps) 0) (placed_rows_safe r bounds t.rows fit)
-      (λ ps h. copies_fit t.key ps h)
+      safe_then (AllByRecursion (IsPlaced r)) (AllByRecursion (KeyedFits r)) (placed_rows t.rows) (λ ps. Gives (flat_map (copies every period t.key) ps) 0) (placed_rows_safe r bounds t.rows fit.1)
+      (λ ps h. copies_fit t.key ps fit.0.0 h)
 
   pub windowed_safe : (place : Place) (tables : List Table) → TablesFit r tables → IsSafe (TablesFit r) (windowed place every period tables)
   unfolding windowed
@@ -151,8 +157,8 @@ module _ (r : GroundRow) (bounds : HasBounds r) (every period : Span) where
     where
       at : (c : Bool) → IsSafe (TablesFit r) (if c then and_then (windowed_tables every period tables) (λ rows. Gives (regrouped rows) 0) else Faults (record { kind = BadWindow; place = place }) 0)
       at true =
-          safe_then (AllByRecursion (λ x. RowFits r x.row)) (TablesFit r) (windowed_tables every period tables) (λ rows. Gives (regrouped rows) 0)
-          (flat_each_safe (λ t. AllByRecursion (RowFits r) t.rows) (λ x. RowFits r x.row) (windowed_table every period) tables fit table_safe) (λ rows all. regrouped_all (RowFits r) rows all)
+          safe_then (AllByRecursion (KeyedFits r)) (TablesFit r) (windowed_tables every period tables) (λ rows. Gives (regrouped rows) 0)
+          (flat_each_safe (TableFits r) (KeyedFits r) (windowed_table every period) tables fit table_safe) (λ rows all. regrouped_all r rows all)
       at false = tt
 
 pub window_safe : (test : Tests) (stored : Stored) → OperatorIsSafe test stored s.Window

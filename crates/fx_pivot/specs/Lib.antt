@@ -1,3 +1,4 @@
 pub mod Cells
+pub mod Hidden
 pub mod Ordered
 pub mod Pivot

@@ -97,6 +97,11 @@ is_listed s.Difference = true
 is_listed s.CumulativeSum = true
 is_listed s.Elapsed = true
 is_listed s.Window = true
+is_listed s.Pivot = true
+is_listed s.Count = true
+is_listed s.Sum = true
+is_listed s.Spread = true
+is_listed s.Distinct = true
 is_listed _ = false
 
 -- the stream is made of these alone
