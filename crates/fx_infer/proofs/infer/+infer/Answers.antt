@@ -40,7 +40,7 @@ use Rattle.fx_unify.specs.Solutions.{next_of}
 use Rattle.fx_infer.specs.Calls.{IsCalled}
 use Rattle.fx_infer.specs.Lists.{entry_names, labels_in}
 use Rattle.fx_infer.specs.Uses.{IsTypedLine}
-use Rattle.fx_infer.proofs.ArgLaws.{args_start, args_more, args_all, no_arg, new_arg, once_is, said_arg, typed_found, known_id}
+use Rattle.fx_infer.proofs.ArgLaws.{args_start, args_more, args_all, no_arg, new_arg, once_is, said_arg, typed_found, no_typed_arg}
 use Rattle.fx_infer.proofs.CallingLaws.{not_once, as_value, as_native, value_found, value_none, value_args_none, native_wordless, native_no_line, native_args_none, native_found, lines_apart, line_below, optional_below, given_below, term_below, plain_call, piped_call}
 use Rattle.fx_infer.proofs.PipeArms.{pipes_start, no_input, pipes_grow, no_piped, pipes_found}
 use Rattle.fx_infer.proofs.WrittenLaws.{at_shape, no_call}
@@ -426,12 +426,12 @@ infer_call-returns-then-not-once t c = not_once c.args.names.now c.args.of.now c
 
 pub infer_call-call_native-requires : goal.infer_call-call_native-requires
 infer_call-call_native-requires t c =
-    let k = subst (IsCallee c.args.names.now c.args.of.now) c.in-Native.is c.in_ok-callee_of.ensures in
+    let k = subst (IsCallee c.args.names.now c.args.of.now) c.in-Native.is c.in_ok-id.ensures in
     (omega arith, (c.requires.names, (c.requires.input, (once_is c.args.args.now c.once.result c.once.ensures ∙ c.if-not-once.false, (k.0, k.1)))))
 
 pub infer_call-returns-in-Native : goal.infer_call-returns-in-Native
 infer_call-returns-in-Native t c =
-    let k = subst (IsCallee c.args.names.now c.args.of.now) c.in-Native.is c.in_ok-callee_of.ensures in
+    let k = subst (IsCallee c.args.names.now c.args.of.now) c.in-Native.is c.in_ok-id.ensures in
     finds_instead (NativeCallOf k.0 c.args.names.now c.args.args.now (pipe_of (option_map term c.args.input))) (CallOf c.args.names.now c.args.of.now c.args.args.now (pipe_of (option_map term c.args.input))) c.args.bindings c.call_native.result
     (λ s u. as_native c.args.names.now c.args.of.now c.args.args.now (pipe_of (option_map term c.args.input)) (once_is c.args.args.now c.once.result c.once.ensures ∙ c.if-not-once.false) s u k.0 (k.2 s)) (c.call_native.ensures k.0 k.1)
 
@@ -440,19 +440,19 @@ infer_call-call_value-requires t c = (omega arith, (c.requires.names, (c.require
 
 pub infer_call-returns-in-Value : goal.infer_call-returns-in-Value
 infer_call-returns-in-Value t c =
-    let k = subst (IsCallee c.args.names.now c.args.of.now) c.in-Value.is c.in_ok-callee_of.ensures in
+    let k = subst (IsCallee c.args.names.now c.args.of.now) c.in-Value.is c.in_ok-id.ensures in
     finds_instead (ValueCallOf c.args.names.now c.args.of.now c.args.args.now (pipe_of (option_map term c.args.input))) (CallOf c.args.names.now c.args.of.now c.args.args.now (pipe_of (option_map term c.args.input))) c.args.bindings c.call_value.result
     (λ s u. as_value c.args.names.now c.args.of.now c.args.args.now (pipe_of (option_map term c.args.input)) (once_is c.args.args.now c.once.result c.once.ensures ∙ c.if-not-once.false) s u (k s)) c.call_value.ensures
 
 pub call_value-returns-in-None : goal.call_value-returns-in-None
 call_value-returns-in-None t c =
-    value_none c.args.names.now c.args.args.now (pipe_of (option_map term c.args.input)) c.args.bindings c.requires.names c.requires.input c.args.of.now (subst (Finds (TypeOf c.args.names.now c.args.of.now) c.args.bindings) c.in-None.is c.in_ok-function.ensures)
+    value_none c.args.names.now c.args.args.now (pipe_of (option_map term c.args.input)) c.args.bindings c.requires.names c.requires.input c.args.of.now (subst (Finds (TypeOf c.args.names.now c.args.of.now) c.args.bindings) c.in-None.is c.in_ok-found.ensures)
 
 pub call_value-infer_args-requires : goal.call_value-infer_args-requires
 call_value-infer_args-requires t c = (
   omega arith,
   (
-    names_later (TypeOf c.args.names.now c.args.of.now) c.args.bindings c.in-Some.found.bindings (λ s. ground s (term c.in-Some.found.ty)) c.args.names.now (subst (Finds (TypeOf c.args.names.now c.args.of.now) c.args.bindings) c.in-Some.is c.in_ok-function.ensures) c.requires.names,
+    names_later (TypeOf c.args.names.now c.args.of.now) c.args.bindings c.in-Some.found.bindings (λ s. ground s (term c.in-Some.found.ty)) c.args.names.now (subst (Finds (TypeOf c.args.names.now c.args.of.now) c.args.bindings) c.in-Some.is c.in_ok-found.ensures) c.requires.names,
     (c.requires.once, (None, tt)),
   ),
 )
@@ -460,25 +460,25 @@ call_value-infer_args-requires t c = (
 pub call_value-returns-in-None-2 : goal.call_value-returns-in-None-2
 call_value-returns-in-None-2 t c =
     value_args_none c.args.names.now c.args.args.now (pipe_of (option_map term c.args.input)) c.args.bindings c.requires.names c.requires.input c.args.of.now c.in-Some.found.bindings (λ s. ground s (term c.in-Some.found.ty))
-    (subst (Finds (TypeOf c.args.names.now c.args.of.now) c.args.bindings) c.in-Some.is c.in_ok-function.ensures) (subst (FindsArgs None c.args.names.now c.args.args.now c.in-Some.found.bindings) c.in-None-2.is (c.in_ok-given.ensures None tt))
+    (subst (Finds (TypeOf c.args.names.now c.args.of.now) c.args.bindings) c.in-Some.is c.in_ok-found.ensures) (subst (FindsArgs None c.args.names.now c.args.args.now c.in-Some.found.bindings) c.in-None-2.is (c.in_ok-given.ensures None tt))
 
 pub call_value-result_of-requires-clause-of : goal.call_value-result_of-requires-clause-of
 call_value-result_of-requires-clause-of t c =
     term_below (TypeOf c.args.names.now c.args.of.now) c.args.bindings c.in-Some.found.bindings c.in-Some-2.given.bindings (term c.in-Some.found.ty) (ArgsOf None c.args.names.now c.args.args.now) (λ s. ground_labels s (labels_in c.in-Some-2.given.entries))
-    (subst (Finds (TypeOf c.args.names.now c.args.of.now) c.args.bindings) c.in-Some.is c.in_ok-function.ensures)
+    (subst (Finds (TypeOf c.args.names.now c.args.of.now) c.args.bindings) c.in-Some.is c.in_ok-found.ensures)
     (subst (FindsArgs None c.args.names.now c.args.args.now c.in-Some.found.bindings) c.in-Some-2.is (c.in_ok-given.ensures None tt)).found
 
 pub call_value-result_of-requires-clause-given : goal.call_value-result_of-requires-clause-given
 call_value-result_of-requires-clause-given t c =
     given_below (TypeOf c.args.names.now c.args.of.now) c.args.bindings c.in-Some.found.bindings c.in-Some-2.given.bindings (λ s. ground s (term c.in-Some.found.ty)) (ArgsOf None c.args.names.now c.args.args.now) c.in-Some-2.given.entries (pipe_of (option_map term c.args.input))
-    (subst (Finds (TypeOf c.args.names.now c.args.of.now) c.args.bindings) c.in-Some.is c.in_ok-function.ensures)
+    (subst (Finds (TypeOf c.args.names.now c.args.of.now) c.args.bindings) c.in-Some.is c.in_ok-found.ensures)
     (subst (FindsArgs None c.args.names.now c.args.args.now c.in-Some.found.bindings) c.in-Some-2.is (c.in_ok-given.ensures None tt)).found c.requires.input
 
 pub call_value-returns : goal.call_value-returns
 call_value-returns t c =
     value_found c.args.names.now c.args.args.now (pipe_of (option_map term c.args.input)) c.args.bindings c.requires.names c.requires.input c.args.of.now c.in-Some.found.bindings c.in-Some-2.given.bindings c.in_ok-result_of.field-0.bindings (λ s. ground s (term c.in-Some.found.ty))
     (λ s. ground_labels s (labels_in c.in-Some-2.given.entries)) (λ s. ground s (term c.in_ok-result_of.field-0.ty))
-    (subst (Finds (TypeOf c.args.names.now c.args.of.now) c.args.bindings) c.in-Some.is c.in_ok-function.ensures)
+    (subst (Finds (TypeOf c.args.names.now c.args.of.now) c.args.bindings) c.in-Some.is c.in_ok-found.ensures)
     (subst (FindsArgs None c.args.names.now c.args.args.now c.in-Some.found.bindings) c.in-Some-2.is (c.in_ok-given.ensures None tt)).found c.in_ok-result_of.ensures
 
 pub call_native-returns-in-None : goal.call_native-returns-in-None
@@ -565,5 +565,12 @@ pub infer_arg-returns-in_ok-said-in-Some : goal.infer_arg-returns-in_ok-said-in-
 infer_arg-returns-in_ok-said-in-Some t c b is =
     said_arg b c.args.names.now c.args.arg.now c.args.bindings c.in-Some.form c.in_ok-said-in-Some.field-0 (sym (c.form_at.ensures b is) ∙ c.in-Some.is) c.in_ok-said-in-Some.ensures
 
-pub infer_arg-returns-in-Some : goal.infer_arg-returns-in-Some
-infer_arg-returns-in-Some t c b is = ?
+pub infer_arg-returns-in-Some-2 : goal.infer_arg-returns-in-Some-2
+infer_arg-returns-in-Some-2 t c b is =
+    typed_found b c.args.names.now c.args.arg.now c.args.bindings c.in-Some-2.found c.argument_of.result c.argument_of.ensures.bindings c.argument_of.ensures.ty (sym (c.form_at.ensures b is) ∙ c.in-None.is)
+    (subst (Finds (TypeOf c.args.names.now c.args.arg.now.value) c.args.bindings) c.in-Some-2.is c.in_ok-found.ensures)
+
+pub infer_arg-returns-in-None-2 : goal.infer_arg-returns-in-None-2
+infer_arg-returns-in-None-2 t c b is =
+    no_typed_arg b c.args.names.now c.args.arg.now c.args.bindings (sym (c.form_at.ensures b is) ∙ c.in-None.is)
+    (subst (Finds (TypeOf c.args.names.now c.args.arg.now.value) c.args.bindings) c.in-None-2.is c.in_ok-found.ensures)
