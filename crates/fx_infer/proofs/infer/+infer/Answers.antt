@@ -568,9 +568,9 @@ infer_arg-returns-in_ok-said-in-Some t c b is =
 pub infer_arg-returns-in-Some-2 : goal.infer_arg-returns-in-Some-2
 infer_arg-returns-in-Some-2 t c b is =
     typed_found b c.args.names.now c.args.arg.now c.args.bindings c.in-Some-2.found c.argument_of.result c.argument_of.ensures.bindings c.argument_of.ensures.ty (sym (c.form_at.ensures b is) ∙ c.in-None.is)
-    (subst (Finds (TypeOf c.args.names.now c.args.arg.now.value) c.args.bindings) c.in-Some-2.is c.in_ok-found.ensures)
+    (subst (Finds (TypeOf c.args.names.now c.args.arg.now.value) c.args.bindings) c.in-Some-2.is c.in_ok-found-in-None.ensures)
 
 pub infer_arg-returns-in-None-2 : goal.infer_arg-returns-in-None-2
 infer_arg-returns-in-None-2 t c b is =
     no_typed_arg b c.args.names.now c.args.arg.now c.args.bindings (sym (c.form_at.ensures b is) ∙ c.in-None.is)
-    (subst (Finds (TypeOf c.args.names.now c.args.arg.now.value) c.args.bindings) c.in-None-2.is c.in_ok-found.ensures)
+    (subst (Finds (TypeOf c.args.names.now c.args.arg.now.value) c.args.bindings) c.in-None-2.is c.in_ok-found-in-None.ensures)
