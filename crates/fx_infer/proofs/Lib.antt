@@ -6,6 +6,7 @@ pub mod ByLineLaws
 pub mod CallLaws
 pub mod CalleeLaws
 pub mod CalledLaws
+pub mod CallingLaws
 pub mod ChainArms
 pub mod DivideLaws
 pub mod EntryLaws
@@ -17,6 +18,7 @@ pub mod MemberArms
 pub mod MoreArms
 pub mod NameArms
 pub mod NativeLaws
+pub mod PipeArms
 pub mod RecordArms
 pub mod RowLaws
 pub mod RuleLaws

@@ -1,31 +1,42 @@
 //! Inference of expressions. What is inferred goes down the tree, and at a name to the expression that was assigned,
 //! in the scope of the names before it; each step down takes one from `room`.
 
-ghost use Rattle.std.specs.Prelude.{IfOk, map};
+ghost use Rattle.std.specs.Prelude.{IfOk, map, ◌≡◌, true, Option, option_map};
 ghost use Rattle.fx_ast.specs.Shape.{tree_of, trees_of, link, links_of, part, parts_of, prop, props_of};
-ghost use Rattle.fx_ast.specs.Tree.{name, text, array, rec, member, chain, prefix, index, if_then};
+ghost use Rattle.fx_ast.specs.Tree.{name, text, array, rec, member, chain, prefix, index, if_then, call, pipe};
+ghost use Rattle.fx_schemes.specs.declared.list.Builtin.{Builtin};
+ghost use Rattle.fx_schemes.specs.Builtins.{differ};
+ghost use Rattle.fx_schemes.specs.Names.{IsId};
 ghost use Rattle.fx_types.specs.Instance.{ground};
-ghost use Rattle.fx_types.specs.Shape.{term};
+ghost use Rattle.fx_types.specs.Shape.{term, pipe_of};
 ghost use Rattle.fx_unify.specs.Solutions.{next_of};
+ghost use Rattle.fx_infer.specs.Callees.{ArgOf, FindsArg, FindsArgs, IsIdOf, CallOf, NativeCallOf, ValueCallOf, PipedOf, PipeBelow};
 ghost use Rattle.fx_infer.specs.Infers.{IsBelow};
 ghost use Rattle.fx_infer.specs.Finds.{Finds, FindsThat};
 ghost use Rattle.fx_infer.specs.Names.{NamesBelow, TypeOf, ShapeOf, LinkOf};
+ghost use Rattle.fx_infer.specs.Parameters.{prop_names};
 ghost use Rattle.fx_infer.specs.Records.{BaseOf, MakesOf, FindsRow, FindsFields};
 ghost use Rattle.fx_infer.specs.Texts.{PartOf};
 
+use crate::arguments::{Argument, Arguments, argument_of, form_at, once, said, with_argument};
 use crate::ask::{Inferred, among, any_array, equal};
+use crate::callee::{Callee, callee_of};
+use crate::calls::called;
 use crate::labels::labels_differ;
 use crate::literals::{int_type, pattern_type, span_type, text_type, time_type};
 use crate::members::package;
 use crate::natives::{native_of, native_value, variable};
 use crate::operators::{infixed, prefixed};
 use crate::records::{Based, Fielded, no_row, record_type, row_of};
-use crate::rules::{element_of, field_of};
+use crate::rules::{element_of, field_of, result_of};
 use crate::scope::{Bound, Name, newest};
 use crate::stop::Stop;
 use crate::terms::{array_of, entry};
+use crate::uses::line_at;
+use crate::words::words_of_call;
 use fx_ast::{Expr, Link, Node, Part, Prefix, Prop};
 use fx_base::{List, Text};
+use fx_schemes::BuiltinId;
 use fx_types::Ty;
 use fx_unify::Bindings;
 use fx_value::Kind;
@@ -65,6 +76,12 @@ pub(crate) fn infer<'a>(
         Node::Array(items) => infer_array(alloc, names, bindings, items.as_slice(), room),
         Node::Rec { base, props } => {
             infer_record(alloc, names, bindings, base, props.as_slice(), room)
+        }
+        Node::Call { callee, args } => {
+            infer_call(alloc, names, bindings, callee, args.as_slice(), None, room)
+        }
+        Node::Pipe { first, calls } => {
+            infer_pipe(alloc, names, bindings, first, calls.as_slice(), room)
         }
         _ => Err(Stop::NotYet),
     }
@@ -407,5 +424,207 @@ fn infer_link<'a>(
     match infer(alloc, names, left.bindings, &next.right, room)? {
         Some(right) => Ok(Some(infixed(alloc, right.bindings, next.op, &left.ty, &right.ty)?)),
         None => Ok(None),
+    }
+}
+
+/// A type of the calls one after another, each with what the one before gives.
+#[cycle(infer)]
+fn infer_pipe<'a>(
+    alloc: Global,
+    names: &[Name<'a>],
+    bindings: Bindings,
+    first: &'a Expr,
+    calls: &'a [Expr],
+    room: u32,
+) -> Result<Option<Inferred>, Stop>
+    requires { NamesBelow (next_of bindings) names.now }
+    ensures { IfOk result (Finds (ShapeOf names.now (pipe (tree_of first.now) (trees_of (map tree_of calls.now)))) bindings) }
+{
+    let mut piped = match infer(alloc, names, bindings, first, room)? {
+        Some(found) => found,
+        None => return Ok(None),
+    };
+    for call in calls {
+        piped = match infer_piped(alloc, names, piped, call, room)? {
+            Some(found) => found,
+            None => return Ok(None),
+        };
+    }
+    Ok(Some(piped))
+}
+
+/// A type of the call with what comes by the pipe.
+#[cycle(infer)]
+fn infer_piped<'a>(
+    alloc: Global,
+    names: &[Name<'a>],
+    piped: Inferred,
+    call: &'a Expr,
+    room: u32,
+) -> Result<Option<Inferred>, Stop>
+    requires names { NamesBelow (next_of piped.bindings) names.now }
+    requires piped { IsBelow (next_of piped.bindings) (term piped.ty) }
+    ensures { IfOk result (Finds (λ s t. PipedOf names.now call.now s (ground s (term piped.ty)) t) piped.bindings) }
+{
+    match call.node.get() {
+        Node::Call { callee, args } => {
+            let input = Some(piped.ty);
+            infer_call(
+                alloc,
+                names,
+                piped.bindings,
+                callee,
+                args.as_slice(),
+                input,
+                room,
+            )
+        }
+        _ => Ok(None),
+    }
+}
+
+/// A type of the call, with what comes by the pipe.
+#[cycle(infer)]
+fn infer_call<'a>(
+    alloc: Global,
+    names: &[Name<'a>],
+    bindings: Bindings,
+    of: &'a Expr,
+    args: &'a [Prop],
+    input: Option<Ty>,
+    room: u32,
+) -> Result<Option<Inferred>, Stop>
+    requires names { NamesBelow (next_of bindings) names.now }
+    requires input { PipeBelow (next_of bindings) (pipe_of (option_map term input)) }
+    ensures { IfOk result (Finds (CallOf names.now of.now args.now (pipe_of (option_map term input))) bindings) }
+{
+    if !once(args) {
+        return Ok(None);
+    }
+    match callee_of(alloc, names, of)? {
+        Callee::Native(id) => call_native(alloc, names, bindings, id, args, input, room),
+        Callee::Literal => Err(Stop::NotYet),
+        Callee::Value => call_value(alloc, names, bindings, of, args, input, room),
+    }
+}
+
+/// A type of the call of a built-in.
+#[cycle(infer)]
+fn call_native<'a>(
+    alloc: Global,
+    names: &[Name<'a>],
+    bindings: Bindings,
+    id: BuiltinId,
+    args: &'a [Prop],
+    input: Option<Ty>,
+    room: u32,
+) -> Result<Option<Inferred>, Stop>
+    requires names { NamesBelow (next_of bindings) names.now }
+    requires input { PipeBelow (next_of bindings) (pipe_of (option_map term input)) }
+    requires once { differ (prop_names (props_of (map prop args.now))) ≡ true }
+    requires known { (b : Builtin) × IsId id b }
+    ensures { (b : Builtin) → IsId id b → IfOk result (Finds (NativeCallOf b names.now args.now (pipe_of (option_map term input))) bindings) }
+{
+    let words = match words_of_call(alloc, id, args)? {
+        Some(words) => words,
+        None => return Ok(None),
+    };
+    let lined = match line_at(alloc, bindings, id, &words)? {
+        Some(lined) => lined,
+        None => return Ok(None),
+    };
+    let given = match infer_args(alloc, names, lined.bindings, Some(id), args, room)? {
+        Some(given) => given,
+        None => return Ok(None),
+    };
+    let entries = given.entries;
+    Ok(called(
+        alloc,
+        given.bindings,
+        &lined.line,
+        entries.as_slice(),
+        input,
+    )?)
+}
+
+/// A type of the call of a value.
+#[cycle(infer)]
+fn call_value<'a>(
+    alloc: Global,
+    names: &[Name<'a>],
+    bindings: Bindings,
+    of: &'a Expr,
+    args: &'a [Prop],
+    input: Option<Ty>,
+    room: u32,
+) -> Result<Option<Inferred>, Stop>
+    requires names { NamesBelow (next_of bindings) names.now }
+    requires input { PipeBelow (next_of bindings) (pipe_of (option_map term input)) }
+    requires once { differ (prop_names (props_of (map prop args.now))) ≡ true }
+    ensures { IfOk result (Finds (ValueCallOf names.now of.now args.now (pipe_of (option_map term input))) bindings) }
+{
+    let function = match infer(alloc, names, bindings, of, room)? {
+        Some(found) => found,
+        None => return Ok(None),
+    };
+    let given = match infer_args(alloc, names, function.bindings, None, args, room)? {
+        Some(given) => given,
+        None => return Ok(None),
+    };
+    Ok(Some(result_of(alloc, given.bindings, &function.ty, given.entries, input)?))
+}
+
+/// The types of the arguments by their labels; those of a built-in's label arguments say words.
+#[cycle(infer)]
+fn infer_args<'a>(
+    alloc: Global,
+    names: &[Name<'a>],
+    bindings: Bindings,
+    of: Option<BuiltinId>,
+    args: &'a [Prop],
+    room: u32,
+) -> Result<Option<Arguments>, Stop>
+    requires names { NamesBelow (next_of bindings) names.now }
+    requires once { differ (prop_names (props_of (map prop args.now))) ≡ true }
+    requires known { (b : Option Builtin) × IsIdOf of b }
+    ensures { (b : Option Builtin) → IsIdOf of b → IfOk result (FindsArgs b names.now args.now bindings) }
+{
+    let mut asked = bindings;
+    let mut entries = List::empty(alloc);
+    for arg in args {
+        let argument = match infer_arg(alloc, names, asked, of, arg, room)? {
+            Some(argument) => argument,
+            None => return Ok(None),
+        };
+        let given = with_argument(entries, &arg.label, argument)?;
+        asked = given.bindings;
+        entries = given.entries;
+    }
+    Ok(Some(Arguments {
+        bindings: asked,
+        entries,
+    }))
+}
+
+/// The type of an argument, or nothing where it says words.
+#[cycle(infer)]
+fn infer_arg<'a>(
+    alloc: Global,
+    names: &[Name<'a>],
+    bindings: Bindings,
+    of: Option<BuiltinId>,
+    arg: &'a Prop,
+    room: u32,
+) -> Result<Option<Argument>, Stop>
+    requires names { NamesBelow (next_of bindings) names.now }
+    requires known { (b : Option Builtin) × IsIdOf of b }
+    ensures { (b : Option Builtin) → IsIdOf of b → IfOk result (FindsArg (ArgOf b names.now arg.now) bindings) }
+{
+    match form_at(of, &arg.label) {
+        Some(form) => Ok(said(alloc, names, bindings, form, &arg.value)?),
+        None => match infer(alloc, names, bindings, &arg.value, room)? {
+            Some(found) => Ok(Some(argument_of(found))),
+            None => Ok(None),
+        },
     }
 }

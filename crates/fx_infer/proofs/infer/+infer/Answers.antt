@@ -1,18 +1,20 @@
-use Rattle.std.proofs.Common.{FitsSigned, IfOk, None, Some, ap, arith, map, rules, subst, sym, take, ◌∙◌, ◌≡◌}
+use Rattle.std.proofs.Common.{FitsSigned, IfOk, None, Some, ap, arith, map, rules, subst, sym, take, ◌∙◌, ◌≡◌, ◌+◌}
 use Rattle.std.specs.Option.{option_copied}
 use Rattle.std.specs.Int.{w64}
 use Rattle.std.proofs.lemmas.Int.{to_z-of_z}
 use Rattle.fx_ast.specs.Shape.{link, links_of, part, parts_of, prop, props_of, shape_of, tree_of, trees_of}
-use Rattle.fx_ast.specs.Tree.{array, chain, if_then, index, int, member, name, paren, pattern, prefix, rec, span, text, time}
-use Rattle.fx_ast.proofs.ShapeLaws.{part_hole, part_piece, shape_array, shape_chain, shape_if, shape_index, shape_int, shape_member, shape_name, shape_paren, shape_pattern, shape_prefix, shape_rec, shape_span, shape_text, shape_time}
+use Rattle.fx_ast.specs.Tree.{array, chain, if_then, index, int, member, name, paren, pattern, prefix, rec, span, text, time, call, pipe, tree}
+use Rattle.fx_ast.proofs.ShapeLaws.{part_hole, part_piece, shape_array, shape_chain, shape_if, shape_index, shape_int, shape_member, shape_name, shape_paren, shape_pattern, shape_prefix, shape_rec, shape_span, shape_text, shape_time, shape_call, shape_pipe}
 use Rattle.fx_schemes.specs.Names.{builtin_of}
-use Rattle.fx_types.specs.Ground.{g_rec}
-use Rattle.fx_types.specs.Instance.{ground, ground_fields, ground_tail}
-use Rattle.fx_types.specs.Shape.{term, entry_term, fields_of, rest_term}
-use Rattle.fx_infer.specs.Finds.{Finds}
-use Rattle.fx_infer.specs.Infers.{Infers}
+use Rattle.fx_types.specs.Ground.{g_rec, g_is}
+use Rattle.fx_types.specs.Instance.{ground, ground_fields, ground_tail, ground_labels, ground_pipe}
+use Rattle.fx_types.specs.Shape.{term, entry_term, fields_of, rest_term, pipe_of}
+use Rattle.std.specs.Prelude.{option_map}
+use Rattle.fx_types.specs.Term.{no_pipe}
+use Rattle.fx_infer.specs.Finds.{Finds, FindsThat, FindsLine, line_under}
+use Rattle.fx_infer.specs.Infers.{Infers, AreBelow}
 use Rattle.fx_infer.specs.Environment.{scope}
-use Rattle.fx_infer.specs.Names.{TypeOf, ShapeOf, env_under}
+use Rattle.fx_infer.specs.Names.{TypeOf, ShapeOf, env_under, IsNewest, LinkOf}
 use Rattle.fx_infer.specs.Operators.{Prefixed}
 use Rattle.fx_infer.specs.Records.{BaseOf, MakesOf, FindsRow, FindsFields}
 use Rattle.fx_infer.specs.Rules.{HasElement, HasField}
@@ -24,17 +26,24 @@ use Rattle.fx_infer.proofs.TextArms.{hole_found, no_hole, piece_found, text_grow
 use Rattle.fx_infer.proofs.TypingLaws.{typed_type}
 use Rattle.fx_types.specs.declared.term.Ty.TheVariants as ty
 use Rattle.fx_types.proofs.ShapeLaws.{term_bool}
-use Rattle.fx_infer.specs.Finds.{FindsThat}
 use Rattle.fx_infer.proofs.MoreArms.{typed_asked, if_found, no_test, no_branch, no_other, if_is, no_item, items_grow, items_all, array_found, no_array, at_later, below_more}
 use Rattle.fx_infer.proofs.ScopeLaws.{names_below}
 use Rattle.fx_types.specs.Size.{IsType}
 use Rattle.fx_infer.specs.Ask.{type_is}
-use Rattle.fx_infer.specs.Names.{IsNewest}
 use Rattle.fx_infer.specs.Native.{native, natives}
 use Rattle.fx_infer.proofs.InfersLaws.{instead}
 use Rattle.fx_infer.proofs.NameArms.{finds_same, finds_instead, found_place, free_is, param_is, value_is, no_package, prefix_below}
-use Rattle.fx_infer.specs.Names.{LinkOf}
 use Rattle.fx_infer.proofs.ChainArms.{chain_start, chain_grow, no_link, chain_found, link_found}
+use Rattle.fx_infer.specs.Callees.{ArgOf, ArgsOf, AreArgs, FindsArg, FindsArgs, CallOf, NativeCallOf, ValueCallOf, PipedOf, IsCallee}
+use Rattle.fx_schemes.specs.Builtins.{differ}
+use Rattle.fx_unify.specs.Solutions.{next_of}
+use Rattle.fx_infer.specs.Calls.{IsCalled}
+use Rattle.fx_infer.specs.Lists.{entry_names, labels_in}
+use Rattle.fx_infer.specs.Uses.{IsTypedLine}
+use Rattle.fx_infer.proofs.ArgLaws.{args_start, args_more, args_all, no_arg, new_arg, once_is, said_arg, typed_found, no_typed_arg}
+use Rattle.fx_infer.proofs.CallingLaws.{not_once, as_value, as_native, value_found, value_none, value_args_none, native_wordless, native_no_line, native_args_none, native_found, lines_apart, line_below, optional_below, given_below, term_below, plain_call, piped_call}
+use Rattle.fx_infer.proofs.PipeArms.{pipes_start, no_input, pipes_grow, no_piped, pipes_found}
+use Rattle.fx_infer.proofs.WrittenLaws.{at_shape, no_call}
 use Rattle.fx_infer.proofs.infer.+infer.Goals as goal
 
 pub infer-returns-in-Int : goal.infer-returns-in-Int
@@ -362,3 +371,206 @@ pub infer_link-returns-in-Some : goal.infer_link-returns-in-Some
 infer_link-returns-in-Some t c =
     link_found c.args.names.now c.args.next.now c.args.left.bindings c.in-Some.right.bindings c.in_ok-infixed-in-Some.field-0.bindings (term c.args.left.ty) (λ s. ground s (term c.in-Some.right.ty)) (λ s. ground s (term c.in_ok-infixed-in-Some.field-0.ty)) c.requires.left
     (subst (Finds (TypeOf c.args.names.now c.args.next.now.right) c.args.left.bindings) c.in-Some.is c.in_ok-right.ensures) c.in_ok-infixed-in-Some.ensures
+
+pub infer-returns-in-Call : goal.infer-returns-in-Call
+infer-returns-in-Call t c =
+    subst (λ T. IfOk c.infer_call.result (Finds T c.args.bindings))
+    (ap (λ ps. ShapeOf c.args.names.now (call (tree_of c.in-Call.callee) (props_of (map prop ps)))) c.as_slice-in-Call.ensures
+    ∙ at_node c.args.names.now c.args.expr.now c.get.result.now (call (tree_of c.in-Call.callee) (props_of (map prop c.in-Call.args))) c.get.ensures (ap shape_of c.in-Call.is ∙ shape_call c.in-Call.callee c.in-Call.args))
+    (finds_instead (CallOf c.args.names.now c.in-Call.callee c.as_slice-in-Call.result.now no_pipe) (ShapeOf c.args.names.now (call (tree_of c.in-Call.callee) (props_of (map prop c.as_slice-in-Call.result.now)))) c.args.bindings c.infer_call.result
+    (plain_call c.args.names.now c.in-Call.callee c.as_slice-in-Call.result.now) c.infer_call.ensures)
+
+pub infer-returns-in-Pipe : goal.infer-returns-in-Pipe
+infer-returns-in-Pipe t c =
+    subst (λ T. IfOk c.infer_pipe.result (Finds T c.args.bindings))
+    (ap (λ es. ShapeOf c.args.names.now (pipe (tree_of c.in-Pipe.first) (trees_of (map tree_of es)))) c.as_slice-in-Pipe.ensures
+    ∙ at_node c.args.names.now c.args.expr.now c.get.result.now (pipe (tree_of c.in-Pipe.first) (trees_of (map tree_of c.in-Pipe.calls))) c.get.ensures (ap shape_of c.in-Pipe.is ∙ shape_pipe c.in-Pipe.first c.in-Pipe.calls)) c.infer_pipe.ensures
+
+pub infer_pipe-loop-call-init : goal.infer_pipe-loop-call-init
+infer_pipe-loop-call-init t c =
+    pipes_start c.args.names.now c.args.first.now c.args.calls.now c.args.bindings c.in-Some.found.bindings (λ s. ground s (term c.in-Some.found.ty)) (subst (Finds (TypeOf c.args.names.now c.args.first.now) c.args.bindings) c.in-Some.is c.in_ok-found.ensures)
+
+pub infer_pipe-returns-in-None : goal.infer_pipe-returns-in-None
+infer_pipe-returns-in-None t c =
+    no_input c.args.names.now c.args.first.now c.args.calls.now c.args.bindings (subst (Finds (TypeOf c.args.names.now c.args.first.now) c.args.bindings) c.in-None.is c.in_ok-found.ensures)
+
+pub infer_pipe-returns-in-None-2 : goal.infer_pipe-returns-in-None-2
+infer_pipe-returns-in-None-2 t c =
+    no_piped c.args.names.now c.args.first.now c.args.calls.now c.args.bindings c.requires c.loop-call.piped.bindings (λ s. ground s (term c.loop-call.piped.ty)) c.loop-call.call-index c.call-item.result c.loop-call-test.true c.call-item.is c.loop-call.invariant
+    (subst (Finds (λ s u. PipedOf c.args.names.now c.call-item.result s (ground s (term c.loop-call.piped.ty)) u) c.loop-call.piped.bindings) c.in-None-2.is c.in_ok-found-2.ensures)
+
+pub infer_pipe-loop-call-preserved : goal.infer_pipe-loop-call-preserved
+infer_pipe-loop-call-preserved t c =
+    pipes_grow c.args.names.now c.args.first.now c.args.calls.now c.args.bindings c.requires c.loop-call.piped.bindings (λ s. ground s (term c.loop-call.piped.ty)) c.loop-call.call-index c.call-item.result c.loop-call-test.true c.call-item.is c.loop-call.invariant
+    c.in-Some-2.found.bindings (λ s. ground s (term c.in-Some-2.found.ty)) (subst (Finds (λ s u. PipedOf c.args.names.now c.call-item.result s (ground s (term c.loop-call.piped.ty)) u) c.loop-call.piped.bindings) c.in-Some-2.is c.in_ok-found-2.ensures)
+
+pub infer_pipe-returns : goal.infer_pipe-returns
+infer_pipe-returns t c =
+    pipes_found c.args.names.now c.args.first.now c.args.calls.now c.args.bindings c.requires c.loop-call.piped.bindings (λ s. ground s (term c.loop-call.piped.ty)) c.loop-call.call-index c.loop-call-test.false c.loop-call.invariant
+
+pub infer_piped-infer_call-requires : goal.infer_piped-infer_call-requires
+infer_piped-infer_call-requires t c = (omega arith, (c.requires.names, λ s q agree. ap g_is (c.requires.piped s q agree)))
+
+pub infer_piped-returns-in-Call : goal.infer_piped-returns-in-Call
+infer_piped-returns-in-Call t c =
+    finds_instead (CallOf c.args.names.now c.in-Call.callee c.as_slice.result.now (pipe_of (option_map term (Some c.args.piped.ty)))) (λ s u. PipedOf c.args.names.now c.args.call.now s (ground s (term c.args.piped.ty)) u) c.args.piped.bindings c.infer_call.result
+    (piped_call c.args.names.now c.args.call.now c.in-Call.callee c.as_slice.result.now c.args.piped.ty
+    (at_shape c.args.call.now c.get.result.now (call (tree_of c.in-Call.callee) (props_of (map prop c.in-Call.args))) c.get.ensures (ap shape_of c.in-Call.is ∙ shape_call c.in-Call.callee c.in-Call.args)
+    ∙ ap (λ ps. tree c.args.call.now.place (call (tree_of c.in-Call.callee) (props_of (map prop ps)))) (sym c.as_slice.ensures))) c.infer_call.ensures
+
+pub infer_piped-returns-in_default : goal.infer_piped-returns-in_default
+infer_piped-returns-in_default t c = λ s h within u k. no_call c.args.call.now c.get.result.now (scope (env_under s c.args.names.now)) (ground s (term c.args.piped.ty)) u c.get.ensures c.in_default.not-Call k
+
+pub infer_call-returns-then-not-once : goal.infer_call-returns-then-not-once
+infer_call-returns-then-not-once t c = not_once c.args.names.now c.args.of.now c.args.args.now (pipe_of (option_map term c.args.input)) c.args.bindings (once_is c.args.args.now c.once.result c.once.ensures ∙ c.if-not-once.true)
+
+pub infer_call-call_native-requires : goal.infer_call-call_native-requires
+infer_call-call_native-requires t c =
+    let k = subst (IsCallee c.args.names.now c.args.of.now) c.in-Native.is c.in_ok-id.ensures in
+    (omega arith, (c.requires.names, (c.requires.input, (once_is c.args.args.now c.once.result c.once.ensures ∙ c.if-not-once.false, (k.0, k.1)))))
+
+pub infer_call-returns-in-Native : goal.infer_call-returns-in-Native
+infer_call-returns-in-Native t c =
+    let k = subst (IsCallee c.args.names.now c.args.of.now) c.in-Native.is c.in_ok-id.ensures in
+    finds_instead (NativeCallOf k.0 c.args.names.now c.args.args.now (pipe_of (option_map term c.args.input))) (CallOf c.args.names.now c.args.of.now c.args.args.now (pipe_of (option_map term c.args.input))) c.args.bindings c.call_native.result
+    (λ s u. as_native c.args.names.now c.args.of.now c.args.args.now (pipe_of (option_map term c.args.input)) (once_is c.args.args.now c.once.result c.once.ensures ∙ c.if-not-once.false) s u k.0 (k.2 s)) (c.call_native.ensures k.0 k.1)
+
+pub infer_call-call_value-requires : goal.infer_call-call_value-requires
+infer_call-call_value-requires t c = (omega arith, (c.requires.names, (c.requires.input, once_is c.args.args.now c.once.result c.once.ensures ∙ c.if-not-once.false)))
+
+pub infer_call-returns-in-Value : goal.infer_call-returns-in-Value
+infer_call-returns-in-Value t c =
+    let k = subst (IsCallee c.args.names.now c.args.of.now) c.in-Value.is c.in_ok-id.ensures in
+    finds_instead (ValueCallOf c.args.names.now c.args.of.now c.args.args.now (pipe_of (option_map term c.args.input))) (CallOf c.args.names.now c.args.of.now c.args.args.now (pipe_of (option_map term c.args.input))) c.args.bindings c.call_value.result
+    (λ s u. as_value c.args.names.now c.args.of.now c.args.args.now (pipe_of (option_map term c.args.input)) (once_is c.args.args.now c.once.result c.once.ensures ∙ c.if-not-once.false) s u (k s)) c.call_value.ensures
+
+pub call_value-returns-in-None : goal.call_value-returns-in-None
+call_value-returns-in-None t c =
+    value_none c.args.names.now c.args.args.now (pipe_of (option_map term c.args.input)) c.args.bindings c.requires.names c.requires.input c.args.of.now (subst (Finds (TypeOf c.args.names.now c.args.of.now) c.args.bindings) c.in-None.is c.in_ok-found.ensures)
+
+pub call_value-infer_args-requires : goal.call_value-infer_args-requires
+call_value-infer_args-requires t c = (
+  omega arith,
+  (
+    names_later (TypeOf c.args.names.now c.args.of.now) c.args.bindings c.in-Some.found.bindings (λ s. ground s (term c.in-Some.found.ty)) c.args.names.now (subst (Finds (TypeOf c.args.names.now c.args.of.now) c.args.bindings) c.in-Some.is c.in_ok-found.ensures) c.requires.names,
+    (c.requires.once, (None, tt)),
+  ),
+)
+
+pub call_value-returns-in-None-2 : goal.call_value-returns-in-None-2
+call_value-returns-in-None-2 t c =
+    value_args_none c.args.names.now c.args.args.now (pipe_of (option_map term c.args.input)) c.args.bindings c.requires.names c.requires.input c.args.of.now c.in-Some.found.bindings (λ s. ground s (term c.in-Some.found.ty))
+    (subst (Finds (TypeOf c.args.names.now c.args.of.now) c.args.bindings) c.in-Some.is c.in_ok-found.ensures) (subst (FindsArgs None c.args.names.now c.args.args.now c.in-Some.found.bindings) c.in-None-2.is (c.in_ok-given.ensures None tt))
+
+pub call_value-result_of-requires-clause-of : goal.call_value-result_of-requires-clause-of
+call_value-result_of-requires-clause-of t c =
+    term_below (TypeOf c.args.names.now c.args.of.now) c.args.bindings c.in-Some.found.bindings c.in-Some-2.given.bindings (term c.in-Some.found.ty) (ArgsOf None c.args.names.now c.args.args.now) (λ s. ground_labels s (labels_in c.in-Some-2.given.entries))
+    (subst (Finds (TypeOf c.args.names.now c.args.of.now) c.args.bindings) c.in-Some.is c.in_ok-found.ensures)
+    (subst (FindsArgs None c.args.names.now c.args.args.now c.in-Some.found.bindings) c.in-Some-2.is (c.in_ok-given.ensures None tt)).found
+
+pub call_value-result_of-requires-clause-given : goal.call_value-result_of-requires-clause-given
+call_value-result_of-requires-clause-given t c =
+    given_below (TypeOf c.args.names.now c.args.of.now) c.args.bindings c.in-Some.found.bindings c.in-Some-2.given.bindings (λ s. ground s (term c.in-Some.found.ty)) (ArgsOf None c.args.names.now c.args.args.now) c.in-Some-2.given.entries (pipe_of (option_map term c.args.input))
+    (subst (Finds (TypeOf c.args.names.now c.args.of.now) c.args.bindings) c.in-Some.is c.in_ok-found.ensures)
+    (subst (FindsArgs None c.args.names.now c.args.args.now c.in-Some.found.bindings) c.in-Some-2.is (c.in_ok-given.ensures None tt)).found c.requires.input
+
+pub call_value-returns : goal.call_value-returns
+call_value-returns t c =
+    value_found c.args.names.now c.args.args.now (pipe_of (option_map term c.args.input)) c.args.bindings c.requires.names c.requires.input c.args.of.now c.in-Some.found.bindings c.in-Some-2.given.bindings c.in_ok-result_of.field-0.bindings (λ s. ground s (term c.in-Some.found.ty))
+    (λ s. ground_labels s (labels_in c.in-Some-2.given.entries)) (λ s. ground s (term c.in_ok-result_of.field-0.ty))
+    (subst (Finds (TypeOf c.args.names.now c.args.of.now) c.args.bindings) c.in-Some.is c.in_ok-found.ensures)
+    (subst (FindsArgs None c.args.names.now c.args.args.now c.in-Some.found.bindings) c.in-Some-2.is (c.in_ok-given.ensures None tt)).found c.in_ok-result_of.ensures
+
+pub call_native-returns-in-None : goal.call_native-returns-in-None
+call_native-returns-in-None t c b is =
+    native_wordless c.args.names.now c.args.args.now (pipe_of (option_map term c.args.input)) c.args.bindings c.requires.names c.requires.input b (sym (c.in_ok-words.ensures b is) ∙ c.in-None.is)
+
+pub call_native-returns-in-None-2 : goal.call_native-returns-in-None-2
+call_native-returns-in-None-2 t c b is =
+    native_no_line c.args.names.now c.args.args.now (pipe_of (option_map term c.args.input)) c.args.bindings c.requires.names c.requires.input b c.in-Some.words (sym (c.in_ok-words.ensures b is) ∙ c.in-Some.is)
+    (subst (FindsLine (λ s L. IsTypedLine b c.in-Some.words L) c.args.bindings) c.in-None-2.is (c.in_ok-lined.ensures b is))
+
+pub call_native-infer_args-requires : goal.call_native-infer_args-requires
+call_native-infer_args-requires t c = (
+  omega arith,
+  (names_below _ _ c.args.names.now (subst (FindsLine (λ s L. IsTypedLine c.requires.known.0 c.in-Some.words L) c.args.bindings) c.in-Some-2.is (c.in_ok-lined.ensures c.requires.known.0 c.requires.known.1)).more c.requires.names, (c.requires.once, (Some c.requires.known.0, c.requires.known.1))),
+)
+
+pub call_native-returns-in-None-3 : goal.call_native-returns-in-None-3
+call_native-returns-in-None-3 t c b is =
+    native_args_none c.args.names.now c.args.args.now (pipe_of (option_map term c.args.input)) c.args.bindings c.requires.names c.requires.input b c.in-Some.words (sym (c.in_ok-words.ensures b is) ∙ c.in-Some.is) c.in-Some-2.lined.bindings (λ s. line_under s c.in-Some-2.lined.line)
+    (subst (FindsLine (λ s L. IsTypedLine b c.in-Some.words L) c.args.bindings) c.in-Some-2.is (c.in_ok-lined.ensures b is)) (subst (FindsArgs (Some b) c.args.names.now c.args.args.now c.in-Some-2.lined.bindings) c.in-None-3.is (c.in_ok-given.ensures (Some b) is))
+
+pub call_native-called-requires-clause-once : goal.call_native-called-requires-clause-once
+call_native-called-requires-clause-once t c = ap (λ es. differ (entry_names es)) c.as_slice.ensures ∙ (subst (FindsArgs (Some c.requires.known.0) c.args.names.now c.args.args.now c.in-Some-2.lined.bindings) c.in-Some-3.is (c.in_ok-given.ensures (Some c.requires.known.0) c.requires.known.1)).once
+
+pub call_native-called-requires-clause-apart : goal.call_native-called-requires-clause-apart
+call_native-called-requires-clause-apart t c =
+    lines_apart c.requires.known.0 c.in-Some.words c.args.bindings c.in-Some-2.lined.bindings c.in-Some-3.given.bindings c.in-Some-2.lined.line (ArgsOf (Some c.requires.known.0) c.args.names.now c.args.args.now) (λ s. ground_labels s (labels_in c.in-Some-3.given.entries))
+    (subst (FindsLine (λ s L. IsTypedLine c.requires.known.0 c.in-Some.words L) c.args.bindings) c.in-Some-2.is (c.in_ok-lined.ensures c.requires.known.0 c.requires.known.1))
+    (subst (FindsArgs (Some c.requires.known.0) c.args.names.now c.args.args.now c.in-Some-2.lined.bindings) c.in-Some-3.is (c.in_ok-given.ensures (Some c.requires.known.0) c.requires.known.1)).found
+
+pub call_native-called-requires-clause-line : goal.call_native-called-requires-clause-line
+call_native-called-requires-clause-line t c =
+    line_below (λ s L. IsTypedLine c.requires.known.0 c.in-Some.words L) c.args.bindings c.in-Some-2.lined.bindings c.in-Some-3.given.bindings c.in-Some-2.lined.line (ArgsOf (Some c.requires.known.0) c.args.names.now c.args.args.now) (λ s. ground_labels s (labels_in c.in-Some-3.given.entries))
+    (subst (FindsLine (λ s L. IsTypedLine c.requires.known.0 c.in-Some.words L) c.args.bindings) c.in-Some-2.is (c.in_ok-lined.ensures c.requires.known.0 c.requires.known.1))
+    (subst (FindsArgs (Some c.requires.known.0) c.args.names.now c.args.args.now c.in-Some-2.lined.bindings) c.in-Some-3.is (c.in_ok-given.ensures (Some c.requires.known.0) c.requires.known.1)).found
+
+pub call_native-called-requires-clause-optional : goal.call_native-called-requires-clause-optional
+call_native-called-requires-clause-optional t c =
+    optional_below (λ s L. IsTypedLine c.requires.known.0 c.in-Some.words L) c.args.bindings c.in-Some-2.lined.bindings c.in-Some-3.given.bindings c.in-Some-2.lined.line (ArgsOf (Some c.requires.known.0) c.args.names.now c.args.args.now) (λ s. ground_labels s (labels_in c.in-Some-3.given.entries))
+    (subst (FindsLine (λ s L. IsTypedLine c.requires.known.0 c.in-Some.words L) c.args.bindings) c.in-Some-2.is (c.in_ok-lined.ensures c.requires.known.0 c.requires.known.1))
+    (subst (FindsArgs (Some c.requires.known.0) c.args.names.now c.args.args.now c.in-Some-2.lined.bindings) c.in-Some-3.is (c.in_ok-given.ensures (Some c.requires.known.0) c.requires.known.1)).found
+
+pub call_native-called-requires-clause-given : goal.call_native-called-requires-clause-given
+call_native-called-requires-clause-given t c =
+    subst (λ es. AreBelow (next_of c.in-Some-3.given.bindings) (labels_in es) (pipe_of (option_map term c.args.input))) (sym c.as_slice.ensures)
+    (given_below (λ s L. IsTypedLine c.requires.known.0 c.in-Some.words L) c.args.bindings c.in-Some-2.lined.bindings c.in-Some-3.given.bindings (λ s. line_under s c.in-Some-2.lined.line) (ArgsOf (Some c.requires.known.0) c.args.names.now c.args.args.now) c.in-Some-3.given.entries (pipe_of (option_map term c.args.input))
+    (subst (FindsLine (λ s L. IsTypedLine c.requires.known.0 c.in-Some.words L) c.args.bindings) c.in-Some-2.is (c.in_ok-lined.ensures c.requires.known.0 c.requires.known.1))
+    (subst (FindsArgs (Some c.requires.known.0) c.args.names.now c.args.args.now c.in-Some-2.lined.bindings) c.in-Some-3.is (c.in_ok-given.ensures (Some c.requires.known.0) c.requires.known.1)).found c.requires.input)
+
+pub call_native-returns : goal.call_native-returns
+call_native-returns t c b is =
+    native_found c.args.names.now c.args.args.now (pipe_of (option_map term c.args.input)) c.args.bindings c.requires.names c.requires.input b c.in-Some.words (sym (c.in_ok-words.ensures b is) ∙ c.in-Some.is) c.in-Some-2.lined.bindings c.in-Some-3.given.bindings (λ s. line_under s c.in-Some-2.lined.line)
+    (λ s. ground_labels s (labels_in c.in-Some-3.given.entries)) c.in_ok-called.field-0
+    (subst (FindsLine (λ s L. IsTypedLine b c.in-Some.words L) c.args.bindings) c.in-Some-2.is (c.in_ok-lined.ensures b is))
+    (subst (FindsArgs (Some b) c.args.names.now c.args.args.now c.in-Some-2.lined.bindings) c.in-Some-3.is (c.in_ok-given.ensures (Some b) is)).found
+    (subst (λ es. Finds (λ s u. IsCalled (ground_pipe s (pipe_of (option_map term c.args.input))) (ground_labels s (labels_in es)) (line_under s c.in-Some-2.lined.line) u) c.in-Some-3.given.bindings c.in_ok-called.field-0) c.as_slice.ensures c.in_ok-called.ensures)
+
+pub infer_args-loop-arg-init : goal.infer_args-loop-arg-init
+infer_args-loop-arg-init t c b is = args_start b c.args.names.now c.args.args.now c.args.bindings c.empty-entries.result c.empty-entries.ensures
+
+pub infer_args-returns-in-None : goal.infer_args-returns-in-None
+infer_args-returns-in-None t c b is =
+    no_arg b c.args.names.now c.args.args.now c.loop-arg.arg-index c.arg-item.result c.args.bindings c.loop-arg.asked (λ s. ground_labels s (labels_in c.loop-arg.entries)) c.loop-arg-test.true c.arg-item.is c.requires.names (c.loop-arg.invariant b is).found
+    (subst (FindsArg (ArgOf b c.args.names.now c.arg-item.result) c.loop-arg.asked) c.in-None.is (c.in_ok-argument.ensures b is))
+
+pub infer_args-infer_arg-requires : goal.infer_args-infer_arg-requires
+infer_args-infer_arg-requires t c = (omega arith, (names_below _ _ c.args.names.now (c.loop-arg.invariant c.requires.known.0 c.requires.known.1).found.more c.requires.names, c.requires.known))
+
+pub infer_args-loop-arg-preserved : goal.infer_args-loop-arg-preserved
+infer_args-loop-arg-preserved t c b is =
+    subst (λ n. AreArgs b c.args.names.now (take (c.loop-arg.arg-index + 1) c.args.args.now) c.args.bindings n c.in_ok-given.given.entries) (sym c.in_ok-given.ensures.bindings)
+    (args_more b c.args.names.now c.args.args.now c.loop-arg.arg-index c.arg-item.result c.args.bindings c.loop-arg.asked c.in-Some.argument.bindings c.loop-arg.entries c.in_ok-given.given.entries c.in-Some.argument.ty c.loop-arg-test.true c.arg-item.is
+    (new_arg c.args.args.now c.loop-arg.arg-index c.arg-item.result c.requires.once c.loop-arg-test.true c.arg-item.is) c.requires.names (c.loop-arg.invariant b is)
+    (subst (FindsArg (ArgOf b c.args.names.now c.arg-item.result) c.loop-arg.asked) c.in-Some.is (c.in_ok-argument.ensures b is)) c.in_ok-given.ensures.entries)
+
+pub infer_args-returns : goal.infer_args-returns
+infer_args-returns t c b is = args_all b c.args.names.now c.args.args.now c.loop-arg.arg-index c.args.bindings c.loop-arg.asked c.loop-arg.entries c.loop-arg-test.false (c.loop-arg.invariant b is)
+
+pub infer_arg-form_at-requires : goal.infer_arg-form_at-requires
+infer_arg-form_at-requires t c = c.requires.known
+
+pub infer_arg-returns-in_ok-said-in-Some : goal.infer_arg-returns-in_ok-said-in-Some
+infer_arg-returns-in_ok-said-in-Some t c b is =
+    said_arg b c.args.names.now c.args.arg.now c.args.bindings c.in-Some.form c.in_ok-said-in-Some.field-0 (sym (c.form_at.ensures b is) ∙ c.in-Some.is) c.in_ok-said-in-Some.ensures
+
+pub infer_arg-returns-in-Some-2 : goal.infer_arg-returns-in-Some-2
+infer_arg-returns-in-Some-2 t c b is =
+    typed_found b c.args.names.now c.args.arg.now c.args.bindings c.in-Some-2.found c.argument_of.result c.argument_of.ensures.bindings c.argument_of.ensures.ty (sym (c.form_at.ensures b is) ∙ c.in-None.is)
+    (subst (Finds (TypeOf c.args.names.now c.args.arg.now.value) c.args.bindings) c.in-Some-2.is c.in_ok-found-in-None.ensures)
+
+pub infer_arg-returns-in-None-2 : goal.infer_arg-returns-in-None-2
+infer_arg-returns-in-None-2 t c b is =
+    no_typed_arg b c.args.names.now c.args.arg.now c.args.bindings (sym (c.form_at.ensures b is) ∙ c.in-None.is)
+    (subst (Finds (TypeOf c.args.names.now c.args.arg.now.value) c.args.bindings) c.in-None-2.is c.in_ok-found-in-None.ensures)
