@@ -1,12 +1,12 @@
 -- What rows in order are, and that a stable sort makes them.
-use Rattle.std.proofs.Common.{◌≡◌, ℕ, ◌+◌, ◌<◌, ◌≤◌, Bool, true, false, T, List, [], ◌∷◌, map, length, refl, sym, ap, subst, ◌∙◌, arith}
+use Rattle.std.proofs.Common.{◌≡◌, ◌<◌, Bool, true, false, T, List, [], ◌∷◌, map, length, refl, sym, ap, subst, ◌∙◌, arith}
 use Rattle.std.proofs.lemmas.List.Sorted.{ranks_by}
 use Rattle.std.specs.Prelude.{cond, not, ◌&&◌, if◌then◌else◌}
 use Rattle.std.specs.declared.cmp.Ordering.{Ordering}
 use Rattle.std.specs.declared.cmp.Ordering.TheVariants.{Less, Equal, Greater}
 use Rattle.std.specs.Cmp.{IsTotalOrder, IsStrictWeakOrder, back_total, on_total, then_total}
 use Rattle.std.specs.FinMap.{get}
-use Rattle.std.specs.List.{AllByRecursion, AllAdjacentBelow, filter}
+use Rattle.std.specs.List.{AllByRecursion, filter}
 use Rattle.std.specs.List.Sorted.{IsSortedBy, IsStableBy, IsPermutation, ties}
 use Rattle.std.specs.Ordering.{is_lt, is_gt, ordering_reverse, ordering_then}
 use Rattle.fx_value.specs.Scalar.{scalar_cmp}
@@ -17,7 +17,7 @@ use Rattle.fx_shape.specs.Columns.{Label}
 use Rattle.fx_shape.specs.Ranked.{ranked, rising_cmp, ranked_cmp}
 use Rattle.fx_shape.specs.Sort.{directed_cmp, in_order, or_null, placed, rows_cmp}
 use Rattle.fx_shape.specs.declared.sorting.Ranked.{Ranked}
-use Rattle.fx_shape.proofs.Ordered.{NoneBelow, Ordered, ordered, one_order, ties_with}
+use Rattle.fx_shape.proofs.Ordered.{NoneBelow, Ordered, ordered, one_order}
 
 -- ---- the orders are total
 

@@ -1,6 +1,6 @@
 -- Tables without some of their columns.
-use Rattle.std.proofs.Common.{◌≡◌, Bool, true, false, not, ◌||◌, List, [], ◌∷◌, map, refl, sym, ap, subst, ◌∙◌}
-use Rattle.std.specs.Prelude.{cond, Some, None, IsTrue}
+use Rattle.std.proofs.Common.{◌≡◌, Bool, true, false, not, List, [], ◌∷◌, map, refl, sym, ap, subst, ◌∙◌}
+use Rattle.std.specs.Prelude.{cond, None}
 use Rattle.std.specs.declared.cmp.Ordering.TheVariants.{Less}
 use Rattle.std.specs.Cmp.{Equal-is, tied_itself}
 use Rattle.std.specs.Cmp.Lexicographic.{nat_list_cmp_total, same_text as equal_text}
@@ -11,7 +11,6 @@ use Rattle.std.specs.List.Sorted.{IsStrictlySortedBy}
 use Rattle.std.specs.Ordering.{eq_by_cmp, is_eq}
 use Rattle.std.proofs.lemmas.Cmp.{nat_list_eq_equiv}
 use Rattle.fx_base.specs.Text.{same_text, text_cmp}
-use Rattle.fx_value.specs.declared.scalar.Scalar.{Scalar}
 use Rattle.fx_value.proofs.Rows.{text_same}
 use Rattle.fx_data.specs.declared.key.KeyEntry.{KeyEntry}
 use Rattle.fx_data.specs.declared.table.Table.{Table}
@@ -34,30 +33,32 @@ tied a b = by (eq_by_cmp text_cmp a b) (same_text a b) refl refl
     by true false e k = sym (k ∙ subst (λ z. same_text a z ≡ true) (text_same a b ((Equal-is _).0 (sym e))) (nat_list_eq_equiv.refl a))
     by false true e k = e ∙ subst (λ z. eq_by_cmp text_cmp a z ≡ true) (equal_text a b k) (ap is_eq (tied_itself nat_list_cmp_total a))
 
-get_left : (stays : Label → Bool) (row : Row) (q : Label) → fin.get (fin.retain_keys row stays) q ≡ cond (stays q) (fin.get row q) None
+pub get_left : (stays : Label → Bool) (row : Row) (q : Label) → fin.get (fin.retain_keys row stays) q ≡ cond (stays q) (fin.get row q) None
 get_left stays row q = fin.get-retain_keys row stays q (λ x tie. ap stays (sym (text_same q x tie)))
 
 -- ---- lawful tables
 
-module _ (stays : Label → Bool) where
+module _ (stays : KeyEntry → Bool) where
   above_left : (l : Label) (es : List KeyEntry) → AllByRecursion (λ q. text_cmp l q ≡ Less) (map (λ e. e.label) es)
-      → AllByRecursion (λ q. text_cmp l q ≡ Less) (map (λ e. e.label) (filter (λ (e : KeyEntry). stays e.label) es))
+      → AllByRecursion (λ q. text_cmp l q ≡ Less) (map (λ e. e.label) (filter stays es))
   above_left l [] h = tt
   above_left l (e ∷ es) h =
-      elim (stays e.label) as (λ b. AllByRecursion (λ q. text_cmp l q ≡ Less) (map (λ e. e.label) (cond b (e ∷ filter (λ (e : KeyEntry). stays e.label) es) (filter (λ (e : KeyEntry). stays e.label) es)))) [
+      elim (stays e) as (λ b. AllByRecursion (λ q. text_cmp l q ≡ Less) (map (λ e. e.label) (cond b (e ∷ filter stays es) (filter stays es)))) [
         | true ↦ (h.0, above_left l es h.1)
         | false ↦ above_left l es h.1
       ]
 
-  rising_left : (es : List KeyEntry) → IsStrictlySortedBy text_cmp (map (λ e. e.label) es) → IsStrictlySortedBy text_cmp (map (λ e. e.label) (filter (λ (e : KeyEntry). stays e.label) es))
+  -- some of the entries of a key
+  pub rising_left : (es : List KeyEntry) → IsStrictlySortedBy text_cmp (map (λ e. e.label) es) → IsStrictlySortedBy text_cmp (map (λ e. e.label) (filter stays es))
   unfolding IsStrictlySortedBy
   rising_left [] h = tt
   rising_left (e ∷ es) h =
-      elim (stays e.label) as (λ b. IsStrictlySortedBy text_cmp (map (λ e. e.label) (cond b (e ∷ filter (λ (e : KeyEntry). stays e.label) es) (filter (λ (e : KeyEntry). stays e.label) es)))) [
+      elim (stays e) as (λ b. IsStrictlySortedBy text_cmp (map (λ e. e.label) (cond b (e ∷ filter stays es) (filter stays es)))) [
         | true ↦ (above_left e.label es h.0, rising_left es h.1)
         | false ↦ rising_left es h.1
       ]
 
+module _ (stays : Label → Bool) where
   columns_stay : (row : Row) (es : List KeyEntry) → HasKey es row → HasKey (filter (λ (e : KeyEntry). stays e.label) es) (fin.retain_keys row stays)
   columns_stay row [] h = tt
   columns_stay row (e ∷ es) h = step (stays e.label) refl (columns_stay row es h.1)
@@ -72,7 +73,7 @@ module _ (stays : Label → Bool) where
   rows_stay es (row ∷ rows) h = (columns_stay row es h.0, rows_stay es rows h.1)
 
   pub left_lawful : (t : Table) → IsLawfulTable t → IsLawfulTable (table_left stays t)
-  left_lawful t h = record { rising = rising_left t.key.entries h.rising; columns = rows_stay t.key.entries t.rows h.columns }
+  left_lawful t h = record { rising = rising_left (λ e. stays e.label) t.key.entries h.rising; columns = rows_stay t.key.entries t.rows h.columns }
 
   -- runs of what is left of the tables are its tables
   pub left_is : (tables : List Table) (runs : FinMap key_cmp (List Row)) → runs ≡ grouped (map (table_left stays) tables) → map table_of (fin.entries runs) ≡ columns_left stays tables

@@ -1,6 +1,6 @@
 -- Maps that are made anew label by label.
-use Rattle.std.proofs.Common.{◌≡◌, ℕ, ◌<◌, ◌+◌, ◌++◌, Bool, true, false, T, List, [], ◌∷◌, map, length, get_or, take, drop, suc, refl, sym, ap, subst, ◌∙◌, arith, drop-cons}
-use Rattle.std.specs.Prelude.{cond, ◌&&◌, not, fold, Option, None, Some, if◌then◌else◌}
+use Rattle.std.proofs.Common.{◌≡◌, ℕ, ◌<◌, ◌+◌, Bool, true, false, T, List, [], ◌∷◌, map, length, get_or, drop, suc, refl, sym, ap, ◌∙◌, arith, drop-cons}
+use Rattle.std.specs.Prelude.{cond, ◌&&◌, fold, Option, None, Some, if◌then◌else◌}
 use Rattle.std.specs.declared.cmp.Ordering.{Ordering}
 use Rattle.std.specs.declared.cmp.Ordering.TheVariants.{Less, Equal, Greater}
 use Rattle.std.specs.Cmp.{Equal-is, eq_by_cmp_equiv}
@@ -75,7 +75,7 @@ module _ {A : Type 0} where
     all_put [] out h = refl
     all_put (e ∷ es) out h = all_put es (put_label keeps names m out e.0) h.1 ∙ one_put out e (keeps e.0) (where_key text_cmp keeps es) h.0
 
-  entries_left : (m : FinMap text_cmp A) (keeps : Label → Bool) → fin.entries (fin.retain_keys m keeps) ≡ where_key text_cmp keeps (fin.entries m)
+  pub entries_left : (m : FinMap text_cmp A) (keeps : Label → Bool) → fin.entries (fin.retain_keys m keeps) ≡ where_key text_cmp keeps (fin.entries m)
   entries_left m keeps =
       let alike : (q x : Label) → text_cmp q x ≡ Equal → keeps x ≡ keeps q = λ q x tie. ap keeps (sym (text_same q x tie)) in
       same_entries text_cmp nat_list_cmp_total text_same _ _ (fin.entries_sorted (fin.retain_keys m keeps)) (is_sorted-where_key text_cmp keeps (fin.entries m) (fin.entries_sorted m))

@@ -5,7 +5,6 @@ use Rattle.fx_base.specs.Text.{text_cmp}
 use Rattle.fx_value.specs.declared.scalar.Scalar.{Scalar}
 use Rattle.fx_value.specs.declared.scalar.Scalar.TheVariants.{Null}
 use Rattle.fx_data.specs.declared.table.Table.{Table}
-use Rattle.fx_group.specs.Answer.{Row}
 use Rattle.fx_shape.specs.Changed.{all_changed}
 
 abbrev pub Label : Type 0

@@ -10,6 +10,7 @@ pub mod Part
 pub mod Ranked
 pub mod Relabelled
 pub mod Rename
+pub mod Renamed
 pub mod Run
 pub mod Running
 pub mod Sort

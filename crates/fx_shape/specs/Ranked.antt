@@ -1,5 +1,5 @@
 -- Rows as the code sorts them, with their value in the first column of the order.
-use Rattle.std.specs.Prelude.{◌≡◌, Bool, List, if◌then◌else◌}
+use Rattle.std.specs.Prelude.{Bool, List, if◌then◌else◌}
 use Rattle.std.specs.FinMap.{get}
 use Rattle.std.specs.declared.cmp.Ordering.{Ordering}
 use Rattle.std.specs.Ordering.{on, ordering_reverse, then_cmp}

@@ -21,6 +21,9 @@ new_name _ _ label = label
 abbrev pub is_covered : List Label → List Label → Label → Bool
 is_covered olds news label = is_listed news label && not (is_listed olds label)
 
+abbrev pub pinned_key : Key → Key
+pinned_key key = record { entries = filter (λ e. e.pinned) key.entries }
+
 module _ (olds news : List Label) where
   abbrev pub row_renamed : Row → Row
   row_renamed = relabelled (λ label. not (is_covered olds news label)) (new_name olds news)
@@ -30,7 +33,7 @@ module _ (olds news : List Label) where
 
   -- pinned entries stay as they are, but where a column gets the name of one
   abbrev pub key_renamed : Key → Key
-  key_renamed key = fold entry_renamed (record { entries = filter (λ e. e.pinned) key.entries }) key.entries
+  key_renamed key = fold entry_renamed (pinned_key key) key.entries
 
   -- `rename`: all old columns get their new names at once
   unfoldable pub columns_renamed : List Table → List Table

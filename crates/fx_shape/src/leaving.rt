@@ -35,12 +35,7 @@ fn table_left(alloc: Global, naming: &Naming<'_>, table: Table) -> Result<Table,
 }
 
 /// Puts what is left of the table behind the runs.
-fn push_left(
-    alloc: Global,
-    runs: Runs,
-    naming: &Naming<'_>,
-    table: Table,
-) -> Result<Runs, Memory>
+fn push_left(alloc: Global, runs: Runs, naming: &Naming<'_>, table: Table) -> Result<Runs, Memory>
     requires plain { IsPlain naming.now }
     requires lawful { IsLawfulTable table }
     ensures { IfOk result (λ r. r ≡ joined runs (table_left (stays naming.now) table)) }

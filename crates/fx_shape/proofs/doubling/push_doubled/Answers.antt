@@ -1,4 +1,4 @@
-use Rattle.std.proofs.Common.{◌≡◌, List, not, ap, subst, ◌∙◌}
+use Rattle.std.proofs.Common.{◌≡◌, List, not, ap, subst}
 use Rattle.std.specs.Prelude.{IfOk}
 use Rattle.fx_data.specs.declared.keyed_row.KeyedRow.{KeyedRow}
 use Rattle.fx_group.specs.Turned.{with_rows}

@@ -1,6 +1,4 @@
-use Rattle.std.proofs.Common.{◌≡◌, ◌∷◌, ◌++◌, List, map, sym, ap, subst, ◌∙◌, append_assoc}
-use Rattle.fx_data.specs.declared.table.Table.{Table}
-use Rattle.fx_data.specs.Table.{AreLawful}
+use Rattle.std.proofs.Common.{map}
 use Rattle.fx_shape.specs.Sort.{table_sorted}
 use Rattle.fx_shape.proofs.SortedTables.{sorted_goes, sorted_lawful}
 use Rattle.fx_shape.proofs.sorting.tables_sorted.Goals as goal
