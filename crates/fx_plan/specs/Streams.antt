@@ -102,6 +102,7 @@ is_listed s.Count = true
 is_listed s.Sum = true
 is_listed s.Spread = true
 is_listed s.Distinct = true
+is_listed s.AggregateWindow = true
 is_listed _ = false
 
 -- the stream is made of these alone
