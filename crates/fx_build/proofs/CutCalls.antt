@@ -2,9 +2,9 @@
 use Rattle.std.proofs.Common.{◌≡◌, refl, sym, ap, subst, ◌∙◌, Bool, true, false, List, [], ◌∷◌, map, length, pos, Option, Some, None}
 use Rattle.std.specs.Prelude.{codes, if◌then◌else◌, IsTrue, option_to_list}
 use Rattle.std.specs.FinMap as fin
+use Rattle.std.specs.Cmp.Lexicographic.{same_text as equal_text}
 use Rattle.std.specs.List.{AllByRecursion}
 use Rattle.std.specs.Ordering.{is_eq}
-use mathlib.Core.Bool.{false≢true}
 use Rattle.fx_base.specs.Text.{same_text, text_cmp}
 use Rattle.fx_base.specs.declared.fault.FaultKind.TheVariants.{BadWindow}
 use Rattle.fx_base.specs.declared.place.Place.{Place}
@@ -12,6 +12,7 @@ use Rattle.fx_time.specs.Windows.{IsWindow}
 use Rattle.fx_time.specs.declared.span.Span.{Span}
 use Rattle.fx_value.specs.Ends.{End, Gives}
 use Rattle.fx_value.specs.declared.scalar.Scalar.{Scalar}
+use Rattle.fx_types.proofs.Choices.{passed}
 use Rattle.fx_types.specs.Ground.{GroundRow, g_bool, g_int, g_span, g_stream, g_time, g_is, is_plain}
 use Rattle.fx_types.specs.Term.{Label}
 use Rattle.fx_data.specs.Regrouped.{regrouped}
@@ -30,7 +31,7 @@ use Rattle.fx_schemes.specs.Builtins.{IsLine, Counts, Ends, Extremes, Folds, Sum
 use Rattle.fx_schemes.specs.Folds.{fold_of, folds}
 use Rattle.fx_schemes.specs.Given.{text_at}
 use Rattle.fx_schemes.specs.Line.{HasBounds, from_tables, parameters, put, take_out}
-use Rattle.fx_schemes.specs.declared.fold.Fold.TheVariants as fold
+use Rattle.fx_table.specs.CaseTable.{value_at}
 use Rattle.fx_meaning.specs.declared.stream.StreamFn.TheVariants as s
 use Rattle.fx_meaning.specs.Ends.{◌>>=◌, fault_at, found, pure}
 use Rattle.fx_meaning.specs.Meaning.{Tests}
@@ -113,38 +114,29 @@ Makes Max = Extremes (codes "_value")
 Makes First = Ends (codes "_value")
 Makes Last = Ends (codes "_value")
 
--- the aggregate of a name that the line takes
-named_fold : (f : Label) (r q : GroundRow) → Folds (fold_of f) (codes "_value") r q → (which : Agg) × (aggregate_named f ≡ Some which) × Makes which r q
-unfolding fold_of folds
-named_fold f r q h =
-    let made = at (is (codes "count")) (is (codes "first")) (is (codes "last")) (is (codes "max")) (is (codes "min")) (is (codes "spread")) (is (codes "sum")) h in
-    (
-      made.0,
-      (λ i. if sym (tied_back (codes "count") f) i then Some Count
-      else (if sym (tied_back (codes "first") f) i then Some First
-      else (if sym (tied_back (codes "last") f) i then Some Last
-      else (if sym (tied_back (codes "max") f) i then Some Max
-      else (if sym (tied_back (codes "min") f) i then Some Min
-      else (if sym (tied_back (codes "spread") f) i then Some Spread
-      else (if sym (tied_back (codes "sum") f) i then Some Sum else None)))))))
-      ∙ made.1,
-      made.2,
-    )
-  where
-    abbrev is : Label → Bool
-    is x = is_eq (text_cmp x f)
+none_at : {V : Type 0} (f : Label) (rows : List (Label × V)) → AllByRecursion (λ row. same_text f row.0 ≡ false) rows → value_at text_cmp f rows ≡ None
+none_at f [] h = refl
+none_at f (row ∷ rows) h = passed (is_eq (text_cmp row.0 f)) (Some row.1) (value_at text_cmp f rows) (tied_back row.0 f ∙ h.0) ∙ none_at f rows h.1
 
-    at : (a b c d e g k : Bool)
-        → Folds (if a then Some fold.Count else (if b then Some fold.End else (if c then Some fold.End else (if d then Some fold.Extreme else (if e then Some fold.Extreme else (if g then Some fold.Sum else (if k then Some fold.Sum else None))))))) (codes "_value") r q
-        → (which : Agg) × ((if a then Some Count else (if b then Some First else (if c then Some Last else (if d then Some Max else (if e then Some Min else (if g then Some Spread else (if k then Some Sum else None))))))) ≡ Some which) × Makes which r q
-    at true b c d e g k h = (Count, refl, h)
-    at false true c d e g k h = (First, refl, h)
-    at false false true d e g k h = (Last, refl, h)
-    at false false false true e g k h = (Max, refl, h)
-    at false false false false true g k h = (Min, refl, h)
-    at false false false false false true k h = (Spread, refl, h)
-    at false false false false false false true h = (Sum, refl, h)
-    at false false false false false false false h = absurd h
+-- a label is this one, or another
+or_else : (f l : Label) (R : Label → Type 0) → R l → (same_text f l ≡ false → R f) → R f
+or_else f l R here other = at (same_text f l) refl
+  where
+    at : (c : Bool) → c ≡ same_text f l → R f
+    at true e = subst R (sym (equal_text f l e)) here
+    at false e = other (sym e)
+
+module _ (r q : GroundRow) where
+  abbrev IsNamed : Label → Type 0
+  IsNamed f = Folds (fold_of f) (codes "_value") r q → (which : Agg) × (aggregate_named f ≡ Some which) × Makes which r q
+
+  -- the aggregate of a name that the line takes
+  named_fold : (f : Label) → IsNamed f
+  unfolding fold_of folds
+  named_fold f =
+      or_else f (codes "count") IsNamed (λ h. (Count, refl, h)) (λ a. or_else f (codes "first") IsNamed (λ h. (First, refl, h)) (λ b. or_else f (codes "last") IsNamed (λ h. (Last, refl, h))
+      (λ c. or_else f (codes "max") IsNamed (λ h. (Max, refl, h)) (λ d. or_else f (codes "min") IsNamed (λ h. (Min, refl, h)) (λ e. or_else f (codes "spread") IsNamed (λ h. (Spread, refl, h))
+      (λ g. or_else f (codes "sum") IsNamed (λ h. (Sum, refl, h)) (λ k h. absurd (subst (λ o. Folds o (codes "_value") r q) (none_at f folds (a, (b, (c, (d, (e, (g, (k, tt)))))))) h))))))))
 
 module _ (place : Place) (r q : GroundRow) (plain : (l : Label) → IsTrue (is_plain (r l))) where
   abbrev AreSafe : Agg → Type 0
@@ -193,7 +185,7 @@ aggregate_window_safe test stored place w L needs input r args limit tss line =
     let q = line.2.0 in
     let made = line.2.1 in
     let out = put (codes "_time") g_time made in
-    let fold = named_fold line.0 q made line.2.3 in
+    let fold = named_fold q made line.0 line.2.3 in
     by_line test stored s.AggregateWindow w (from_tables q (codes "fn" ∷ []) ((codes "every", g_span) ∷ []) ((codes "createEmpty", g_bool) ∷ []) (g_stream out)) _ _ _ refl
     (λ place args limit tss is have further. one_safe (TablesFit out) (put (codes "tables") (g_stream q) (parameters ((codes "every", g_span) ∷ []))) (codes "tables") q (by_windows w place args) tss refl have
     (λ ts fit. argument_safe (TablesFit out) g_span args (codes "every") _ (further (codes "every"))

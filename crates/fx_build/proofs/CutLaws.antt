@@ -56,7 +56,7 @@ use Rattle.fx_build.proofs.WindowCalls.{IsPlaced, copies_stop, each_made, placed
 fits_64 : (n : ℤ) → IsTrue (in_64_bits n) → FitsSigned w64 n
 fits_64 n h = fits_int n h
 
-length_only : (span : Span) → is_length span ≡ true → IsWindow span
+pub length_only : (span : Span) → is_length span ≡ true → IsWindow span
 length_only span e = grind (arith, ints)
 
 module _ (every : Span) (window : IsWindow every) (k : ℤ) where

@@ -97,7 +97,7 @@ module _ (test : Tests) (stored : Stored) (lawful : AreLawful stored) where
   operator_safe s.Spread listed = spread_safe test stored
   operator_safe s.Distinct listed = distinct_safe test stored
   operator_safe s.AggregateWindow listed = aggregate_window_safe test stored
-  operator_safe _ listed = absurd (false≢true listed)
+  operator_safe s.Yield listed = absurd (false≢true listed)
 
   counted_safe : (g : StreamFn) (r : GroundRow) (received : List (List Table)) (made : End (List Table)) → IsSafe (TablesFit r) made → IsSafe (TablesFit r) (counted g received made)
   counted_safe g r received made h =
