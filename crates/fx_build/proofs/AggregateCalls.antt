@@ -93,7 +93,7 @@ module _ (r : GroundRow) (plain : (l : Label) → IsTrue (is_plain (r l))) (x : 
 
 -- ---- numbers
 
-whole_safe : (place : Place) (n : ℤ) → IsSafe (IsValue g_int) (whole place n)
+pub whole_safe : (place : Place) (n : ℤ) → IsSafe (IsValue g_int) (whole place n)
 whole_safe place n = at (in_64_bits n) refl
   where
     at : (c : Bool) → c ≡ in_64_bits n → IsSafe (IsValue g_int) (if c then Gives (scalar.Int n) 0 else Faults (record { kind = Overflow; place = place }) 0)
@@ -118,6 +118,12 @@ integers_safe r x has rows fit =
     at (Some (scalar.Int n)) h = (tt, tt)
     at (Some _) h = absurd (false≢true h)
 
+pub sum_value : (r : GroundRow) (place : Place) (x : Label) → r x ≡ g_is g_int → (rows : List Row) → AllByRecursion (RowFits r) rows → IsSafe (IsValue g_int) (summed place x rows)
+sum_value r place x has rows fit = safe_then (AllByRecursion (λ n. Unit {0})) (IsValue g_int) (integers x rows) (sum_of place) (integers_safe r x has rows fit) (λ ns _. sum_of_safe place ns)
+
+pub spread_value : (r : GroundRow) (place : Place) (x : Label) → r x ≡ g_is g_int → (rows : List Row) → AllByRecursion (RowFits r) rows → IsSafe (IsValue g_int) (spread_over place x rows)
+spread_value r place x has rows fit = safe_then (AllByRecursion (λ n. Unit {0})) (IsValue g_int) (integers x rows) (spread_of place) (integers_safe r x has rows fit) (λ ns _. spread_of_safe place ns)
+
 module _ (r : GroundRow) (plain : (l : Label) → IsTrue (is_plain (r l))) (place : Place) (x : Label) where
   abbrev counts : GroundRow
   counts = put x g_int (take_out (codes "_time") r)
@@ -133,16 +139,10 @@ module _ (r : GroundRow) (plain : (l : Label) → IsTrue (is_plain (r l))) (plac
   counted_safe tables fit = tables_safe counts Count (λ t h. one_row_safe r plain x g_int t.key (whole place (pos (length t.rows))) h.0 (whole_safe place (pos (length t.rows)))) tables fit
 
   pub summed_safe : r x ≡ g_is g_int → (tables : List Table) → TablesFit r tables → IsSafe (TablesFit counts) (aggregated place Sum x tables)
-  summed_safe has tables fit =
-      tables_safe counts Sum
-      (λ t h. one_row_safe r plain x g_int t.key (summed place x t.rows) h.0
-      (safe_then (AllByRecursion (λ n. Unit {0})) (IsValue g_int) (integers x t.rows) (sum_of place) (integers_safe r x has t.rows h.1) (λ ns _. sum_of_safe place ns))) tables fit
+  summed_safe has tables fit = tables_safe counts Sum (λ t h. one_row_safe r plain x g_int t.key (summed place x t.rows) h.0 (sum_value r place x has t.rows h.1)) tables fit
 
   pub spread_over_safe : r x ≡ g_is g_int → (tables : List Table) → TablesFit r tables → IsSafe (TablesFit counts) (aggregated place Spread x tables)
-  spread_over_safe has tables fit =
-      tables_safe counts Spread
-      (λ t h. one_row_safe r plain x g_int t.key (spread_over place x t.rows) h.0
-      (safe_then (AllByRecursion (λ n. Unit {0})) (IsValue g_int) (integers x t.rows) (spread_of place) (integers_safe r x has t.rows h.1) (λ ns _. spread_of_safe place ns))) tables fit
+  spread_over_safe has tables fit = tables_safe counts Spread (λ t h. one_row_safe r plain x g_int t.key (spread_over place x t.rows) h.0 (spread_value r place x has t.rows h.1)) tables fit
 
 -- ---- differing values
 

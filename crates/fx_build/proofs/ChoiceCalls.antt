@@ -34,7 +34,7 @@ use Rattle.fx_build.proofs.SafeLaws.{safe_then}
 use Rattle.fx_build.proofs.TableLaws.{KeyedFits, flat_each_safe, regrouped_all}
 
 module _ (P : Row → Type 0) where
-  abbrev Is : Option Candidate → Type 0
+  abbrev pub Is : Option Candidate → Type 0
   Is None = Unit {0}
   Is (Some c) = P c.1
 
@@ -55,7 +55,7 @@ module _ (P : Row → Type 0) where
       at true = h
       at false = k
 
-  best_is : (keeps : Scalar → Scalar → Bool) (column : Label) (rows : List Row) → AllByRecursion P rows → Is (best keeps column rows)
+  pub best_is : (keeps : Scalar → Scalar → Bool) (column : Label) (rows : List Row) → AllByRecursion P rows → Is (best keeps column rows)
   best_is keeps column [] h = tt
   best_is keeps column (row ∷ rows) h =
       better_is keeps (candidate column row) (best keeps column rows) (candidate_is (get row column) row h.0) (best_is keeps column rows h.1)

@@ -7,7 +7,7 @@ use Rattle.std.specs.FinMap.{entries, entries_sorted, get, get-entries}
 use Rattle.std.specs.FinMap.Entries.{below_all, by_order, find, is_sorted, put as put_entry}
 use Rattle.std.specs.List.{AllByRecursion}
 use Rattle.std.specs.List.Sorted.{IsStrictlySortedBy}
-use Rattle.std.specs.Ordering.{is_eq, is_lt}
+use Rattle.std.specs.Ordering.{eq_by_cmp, is_eq, is_lt}
 use Rattle.std.specs.declared.cmp.Ordering.{Ordering}
 use Rattle.std.specs.declared.cmp.Ordering.TheVariants.{Less, Equal, Greater}
 use mathlib.Core.Bool.{false≢true}
@@ -96,38 +96,49 @@ columns_have row = cells_have row (entries row) (entries_found row)
 
 -- ---- keys with one more column
 
-module _ (r : GroundRow) (x : Label) (t : Ground) (value : Scalar) (is : IsTrue (is_cell (column_kind t) value)) where
-  apart : (l : Label) (o : Ordering) → text_cmp x l ≡ o → is_eq o ≡ false → same_text l x ≡ false
-  apart l o e off = sym (tied l x) ∙ (eq_by_cmp_equiv nat_list_cmp_total).symm l x ∙ ap is_eq e ∙ off
+-- labels by order from either side
+pub tied_back : (x l : Label) → eq_by_cmp text_cmp x l ≡ same_text l x
+tied_back x l = (eq_by_cmp_equiv nat_list_cmp_total).symm x l ∙ tied l x
 
-  kept_fits : (e : KeyEntry) → same_text e.label x ≡ false → EntryFits r e → EntryFits (put x t r) e
-  kept_fits e off h = subst (λ f. IsTrue (is_column_of f (shown e))) (sym (passed (same_text e.label x) (g_is t) (r e.label) off)) h
-
-  set_fits : (l : Label) → same_text l x ≡ true → EntryFits (put x t r) (record { label = l; value = value; pinned = false })
-  set_fits l same = subst (λ f. IsTrue (is_column_of f (Some value))) (sym (chosen (same_text l x) (g_is t) (r l) same)) is
-
-  others_fit : (es : List KeyEntry) → AllByRecursion (λ q. text_cmp x q ≡ Less) (map (λ e. e.label) es) → AllByRecursion (EntryFits r) es → AllByRecursion (EntryFits (put x t r)) (map entry_of (map parts_of es))
-  others_fit [] above h = tt
-  others_fit (e ∷ es) above h = (kept_fits e (apart e.label Less above.0 refl) h.0, others_fit es above.1 h.1)
+module _ (x : Label) (value : Scalar) (P Q : KeyEntry → Type 0) (is : (l : Label) → same_text l x ≡ true → Q (record { label = l; value = value; pinned = false })) (others : (e : KeyEntry) → same_text e.label x ≡ false → P e → Q e) where
+  others_all : (es : List KeyEntry) → AllByRecursion (λ q. text_cmp x q ≡ Less) (map (λ e. e.label) es) → AllByRecursion P es → AllByRecursion Q (map entry_of (map parts_of es))
+  others_all [] above h = tt
+  others_all (e ∷ es) above h = (others e (sym (tied_back x e.label) ∙ ap is_eq above.0) h.0, others_all es above.1 h.1)
 
   above_all : (l : Label) (ls : List Label) → text_cmp x l ≡ Less → AllByRecursion (λ q. text_cmp l q ≡ Less) ls → AllByRecursion (λ q. text_cmp x q ≡ Less) ls
   above_all l [] below h = tt
   above_all l (q ∷ ls) below h = (nat_list_cmp_total.trans x l q below h.0, above_all l ls below h.1)
 
-  with_fits : (es : List KeyEntry) → IsStrictlySortedBy text_cmp (map (λ e. e.label) es) → AllByRecursion (EntryFits r) es
-      → AllByRecursion (EntryFits (put x t r)) (map entry_of (put_entry text_cmp x (value, false) (map parts_of es)))
+  -- what is said of entries whose labels rise, with one of them put in
+  pub entries_with : (es : List KeyEntry) → IsStrictlySortedBy text_cmp (map (λ e. e.label) es) → AllByRecursion P es → AllByRecursion Q (map entry_of (put_entry text_cmp x (value, false) (map parts_of es)))
   unfolding IsStrictlySortedBy
-  with_fits [] rising h = (set_fits x (same_itself x), tt)
-  with_fits (e ∷ es) rising h =
+  entries_with [] rising h = (is x (same_itself x), tt)
+  entries_with (e ∷ es) rising h =
       elim (text_cmp x e.label) as (λ o. text_cmp x e.label ≡ o
-      → AllByRecursion (EntryFits (put x t r)) (map entry_of (by_order o ((x, (value, false)) ∷ parts_of e ∷ map parts_of es) ((e.label, (value, false)) ∷ map parts_of es) (parts_of e ∷ put_entry text_cmp x (value, false) (map parts_of es))))) [
-        | Less ↦ λ o. (set_fits x (same_itself x), others_fit (e ∷ es) (o, above_all e.label (map (λ d. d.label) es) o rising.0) h)
+      → AllByRecursion Q (map entry_of (by_order o ((x, (value, false)) ∷ parts_of e ∷ map parts_of es) ((e.label, (value, false)) ∷ map parts_of es) (parts_of e ∷ put_entry text_cmp x (value, false) (map parts_of es))))) [
+        | Less ↦ λ o. (is x (same_itself x), others_all (e ∷ es) (o, above_all e.label (map (λ d. d.label) es) o rising.0) h)
         | Equal ↦ λ o. (
-          set_fits e.label (sym (tied e.label x) ∙ (eq_by_cmp_equiv nat_list_cmp_total).symm e.label x ∙ ap is_eq o),
-          others_fit es (subst (λ l. AllByRecursion (λ q. text_cmp l q ≡ Less) (map (λ d. d.label) es)) (sym (text_same x e.label o)) rising.0) h.1,
+          is e.label (sym (tied_back x e.label) ∙ ap is_eq o),
+          others_all es (subst (λ l. AllByRecursion (λ q. text_cmp l q ≡ Less) (map (λ d. d.label) es)) (sym (text_same x e.label o)) rising.0) h.1,
         )
-        | Greater ↦ λ o. (kept_fits e (apart e.label Greater o refl) h.0, with_fits es rising.1 h.1)
+        | Greater ↦ λ o. (others e (sym (tied_back x e.label) ∙ ap is_eq o) h.0, entries_with es rising.1 h.1)
       ] refl
 
-  pub key_with_fits : (key : Key) → KeyFits r key → KeyFits (put x t r) (key_with key x value)
-  key_with_fits key h = (key_with_rises key x value h.0, with_fits key.entries h.0 h.1)
+-- a column of the type t
+pub key_with_fits : (r : GroundRow) (x : Label) (t : Ground) (value : Scalar) → IsTrue (is_cell (column_kind t) value) → (key : Key) → KeyFits r key → KeyFits (put x t r) (key_with key x value)
+key_with_fits r x t value is key h = (
+  key_with_rises key x value h.0,
+  entries_with x value (EntryFits r) (EntryFits (put x t r)) (λ l same. subst (λ f. IsTrue (is_column_of f (Some value))) (sym (chosen (same_text l x) (g_is t) (r l) same)) is)
+  (λ e off fit. subst (λ f. IsTrue (is_column_of f (shown e))) (sym (passed (same_text e.label x) (g_is t) (r e.label) off)) fit) key.entries h.0 h.1,
+)
+
+-- a column of its own type
+pub again_key : (r : GroundRow) (x : Label) (t : Ground) (value : Scalar) → r x ≡ g_is t → IsTrue (is_cell (column_kind t) value) → (key : Key) → KeyFits r key → KeyFits r (key_with key x value)
+again_key r x t value has is key h = subst (λ q. KeyFits q (key_with key x value)) same (key_with_fits r x t value is key h)
+  where
+    at : (l : Label) (c : Bool) → c ≡ same_text l x → (if c then g_is t else r l) ≡ r l
+    at l true e = sym (ap r (equal_text l x e) ∙ has)
+    at l false e = refl
+
+    same : put x t r ≡ r
+    same = λ i. λ l. (at l (same_text l x) refl) i

@@ -6,6 +6,8 @@ pub mod Callable
 pub mod ChoiceCalls
 pub mod ColumnCalls
 pub mod ConvertCalls
+pub mod CutCalls
+pub mod CutLaws
 pub mod Entered
 pub mod FoldCalls
 pub mod FoldLaws
@@ -35,6 +37,7 @@ pub mod SortCalls
 pub mod Sound
 pub mod Soundness
 pub mod SourceLaws
+pub mod StopLaws
 pub mod StreamCalls
 pub mod StreamLines
 pub mod StreamRuns

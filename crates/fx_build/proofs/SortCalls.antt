@@ -48,7 +48,7 @@ unfolding rows_sorted
 sorted_all r columns desc [] h = tt
 sorted_all r columns desc (t ∷ tables) h = ((h.0.0, order_all (RowFits r) (directed_cmp desc columns) t.rows h.0.1), sorted_all r columns desc tables h.1)
 
-flag_safe : (place : Place) (v : Val) → fits v g_bool → IsSafe (λ b. Unit {0}) (flag_at place v)
+pub flag_safe : (place : Place) (v : Val) → fits v g_bool → IsSafe (λ b. Unit {0}) (flag_at place v)
 flag_safe place v h = of_cell kind.Bool v (λ y. IsSafe (λ b. Unit {0}) (flag_at place y)) h (λ a is. of_flag a (λ c. IsSafe (λ b. Unit {0}) (flag_at place (cell c))) is tt (λ b. tt))
 
 desc_safe : (place : Place) (args : Slots) → keeps_at args (codes "desc") (typed g_bool) (Unit {0}) → IsSafe (λ b. Unit {0}) (flag_or_false place (look (codes "desc") args))

@@ -31,6 +31,7 @@ use Rattle.fx_build.proofs.AggregateCalls.{count_safe, distinct_safe, spread_saf
 use Rattle.fx_build.proofs.ChoiceCalls.{first_safe, last_safe, max_safe, min_safe}
 use Rattle.fx_build.proofs.FoldCalls.{reduce_safe}
 use Rattle.fx_build.proofs.ColumnCalls.{drop_safe, duplicate_safe, fill_safe, group_safe, keep_safe, limit_safe, set_safe, tail_safe, union_safe}
+use Rattle.fx_build.proofs.CutCalls.{aggregate_window_safe}
 use Rattle.fx_build.proofs.JoinCalls.{full_safe, inner_safe, left_safe, right_safe, time_safe}
 use Rattle.fx_build.proofs.OperatorCalls.{AreTables, HaveTables, OperatorIsSafe, array_safe, bools_safe, filter_safe, from_safe, map_safe, range_safe, texts_safe}
 use Rattle.fx_build.proofs.PivotCalls.{pivot_safe}
@@ -95,7 +96,8 @@ module _ (test : Tests) (stored : Stored) (lawful : AreLawful stored) where
   operator_safe s.Sum listed = sum_safe test stored
   operator_safe s.Spread listed = spread_safe test stored
   operator_safe s.Distinct listed = distinct_safe test stored
-  operator_safe _ listed = absurd (false≢true listed)
+  operator_safe s.AggregateWindow listed = aggregate_window_safe test stored
+  operator_safe s.Yield listed = absurd (false≢true listed)
 
   counted_safe : (g : StreamFn) (r : GroundRow) (received : List (List Table)) (made : End (List Table)) → IsSafe (TablesFit r) made → IsSafe (TablesFit r) (counted g received made)
   counted_safe g r received made h =

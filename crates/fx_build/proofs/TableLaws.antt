@@ -65,26 +65,38 @@ module _ {K X : Type 0} (cmp : K → K → Ordering) (total : IsTotalOrder cmp) 
 abbrev pub KeyedFits : GroundRow → KeyedRow → Type 0
 KeyedFits r x = HasRisingLabels x.key × RowFits r x.row
 
-module _ (r : GroundRow) where
-  pub all_with : (k : Key) (ts : List Table) → TablesFit r ts → AllByRecursion (RowFits r) (rows_with k ts)
-  all_with k [] h = tt
-  all_with k (t ∷ ts) h =
-      elim (eq_by_cmp key_cmp k t.key) as (λ b. AllByRecursion (RowFits r) (flat_map (λ u. u.rows) (cond b (t ∷ filter (λ u. eq_by_cmp key_cmp k u.key) ts) (filter (λ u. eq_by_cmp key_cmp k u.key) ts)))) [
-        | true ↦ all-append (RowFits r) t.rows _ h.0.1 (all_with k ts h.1)
-        | false ↦ all_with k ts h.1
+-- a table whose key is as K says, and whose rows are as P says
+abbrev pub HasParts : (Key → Type 0) → (Row → Type 0) → Table → Type 0
+HasParts K P t = K t.key × AllByRecursion P t.rows
+
+module _ (K : Key → Type 0) (P : Row → Type 0) where
+  rows_under : (k : Key) (ts : List Table) → AllByRecursion (HasParts K P) ts → AllByRecursion P (rows_with k ts)
+  rows_under k [] h = tt
+  rows_under k (t ∷ ts) h =
+      elim (eq_by_cmp key_cmp k t.key) as (λ b. AllByRecursion P (flat_map (λ u. u.rows) (cond b (t ∷ filter (λ u. eq_by_cmp key_cmp k u.key) ts) (filter (λ u. eq_by_cmp key_cmp k u.key) ts)))) [
+        | true ↦ all-append P t.rows _ h.0.1 (rows_under k ts h.1)
+        | false ↦ rows_under k ts h.1
       ]
 
-  pairs_all : (ts us : List Table) → TablesFit r ts → TablesFit r us → AllByRecursion (IsPair (KeyFits r) (AllByRecursion (RowFits r))) (map (λ u. (u.key, rows_with u.key ts)) us)
+  pairs_all : (ts us : List Table) → AllByRecursion (HasParts K P) ts → AllByRecursion (HasParts K P) us → AllByRecursion (IsPair K (AllByRecursion P)) (map (λ u. (u.key, rows_with u.key ts)) us)
   pairs_all ts [] h k = tt
-  pairs_all ts (u ∷ us) h k = ((k.0.0, all_with u.key ts h), pairs_all ts us h k.1)
+  pairs_all ts (u ∷ us) h k = ((k.0.0, rows_under u.key ts h), pairs_all ts us h k.1)
 
-  tables_all : (es : List (Key × List Row)) → AllByRecursion (IsPair (KeyFits r) (AllByRecursion (RowFits r))) es → TablesFit r (map table_of es)
+  tables_all : (es : List (Key × List Row)) → AllByRecursion (IsPair K (AllByRecursion P)) es → AllByRecursion (HasParts K P) (map table_of es)
   tables_all [] h = tt
   tables_all (e ∷ es) h = (h.0, tables_all es h.1)
 
-  pub gathered_all : (ts : List Table) → TablesFit r ts → TablesFit r (gathered ts)
+  -- gathered tables have the keys and the rows of the tables
+  pub gathered_parts : (ts : List Table) → AllByRecursion (HasParts K P) ts → AllByRecursion (HasParts K P) (gathered ts)
   unfolding gathered grouped
-  gathered_all ts h = tables_all _ (pairs_of key_cmp key_cmp_total (KeyFits r) (AllByRecursion (RowFits r)) _ (pairs_all ts ts h h))
+  gathered_parts ts h = tables_all _ (pairs_of key_cmp key_cmp_total K (AllByRecursion P) _ (pairs_all ts ts h h))
+
+module _ (r : GroundRow) where
+  pub all_with : (k : Key) (ts : List Table) → TablesFit r ts → AllByRecursion (RowFits r) (rows_with k ts)
+  all_with k ts h = rows_under (KeyFits r) (RowFits r) k ts h
+
+  pub gathered_all : (ts : List Table) → TablesFit r ts → TablesFit r (gathered ts)
+  gathered_all ts h = gathered_parts (KeyFits r) (RowFits r) ts h
 
   -- a row as a table
   pub alone_fits : (x : KeyedRow) → KeyedFits r x → TableFits r (alone x)

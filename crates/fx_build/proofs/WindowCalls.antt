@@ -17,14 +17,13 @@ use Rattle.fx_value.specs.declared.scalar.Scalar.TheVariants as scalar
 use Rattle.fx_ops.specs.Whole.{in_64_bits}
 use Rattle.fx_types.specs.Ground.{GroundRow, g_span, g_stream, g_time, g_is}
 use Rattle.fx_types.specs.Term.{Label}
-use Rattle.fx_data.proofs.Columns.{key_with_rises}
 use Rattle.fx_data.proofs.Lawful.{all-append}
-use Rattle.fx_data.specs.Columns.{key_with}
 use Rattle.fx_data.specs.Regrouped.{regrouped}
 use Rattle.fx_data.specs.Table.{HasRisingLabels}
 use Rattle.fx_data.specs.declared.key.Key.{Key}
 use Rattle.fx_data.specs.declared.table.Table.{Table}
-use Rattle.fx_group.specs.RangeRows.{bounded_key, set_row}
+use Rattle.fx_group.proofs.Unstuck.{each_of}
+use Rattle.fx_group.specs.RangeRows.{set_row}
 use Rattle.fx_window.specs.Clip.{lowered, raised}
 use Rattle.fx_window.specs.Lengths.{are_lengths}
 use Rattle.fx_window.specs.Numbers.{numbers}
@@ -47,6 +46,7 @@ use Rattle.fx_build.proofs.ColumnCalls.{again_fits}
 use Rattle.fx_build.proofs.OperatorCalls.{OperatorIsSafe, argument_safe, by_line, one_safe}
 use Rattle.fx_build.proofs.RunningCalls.{span_in_safe, span_or_safe}
 use Rattle.fx_build.proofs.SafeLaws.{safe_then}
+use Rattle.fx_build.proofs.StopLaws.{KeyedStops, set_stops}
 use Rattle.fx_build.proofs.TableLaws.{KeyedFits, flat_each_safe, regrouped_all}
 
 -- ---- lists
@@ -112,10 +112,6 @@ module _ (r : GroundRow) (bounds : HasBounds r) where
   set_fits start stop row first last fit =
       again_fits r (insert row (codes "_start") (scalar.Time start)) (codes "_stop") g_time (scalar.Time stop) bounds.2 (again_fits r row (codes "_start") g_time (scalar.Time start) bounds.1 fit first) last
 
--- the labels of the key with both bounds rise
-pub bounded_rises : (start stop : ℤ) (key : Key) → HasRisingLabels key → HasRisingLabels (bounded_key start stop key)
-bounded_rises start stop key h = key_with_rises (key_with key (codes "_start") (scalar.Time start)) (codes "_stop") (scalar.Time stop) (key_with_rises key (codes "_start") (scalar.Time start) h)
-
 -- ---- windows
 
 -- what is clipped lies between times
@@ -127,24 +123,27 @@ lowered_in : (high stop t : ℤ) → IsTrue (in_64_bits high) → IsTrue (in_64_
 lowered_in high stop t h k l = grind (arith, ints)
 
 module _ (r : GroundRow) (bounds : HasBounds r) (every period : Span) where
-  copy_fits : (key : Key) (p : Placed) → HasRisingLabels key → IsPlaced r p → (k : ℤ) → AllByRecursion (KeyedFits r) (copy_in every period key p k)
+  copy_fits : (key : Key) (p : Placed) → HasRisingLabels key → IsPlaced r p → (k : ℤ) → AllByRecursion (KeyedStops r) (copy_in every period key p k)
   copy_fits key p rising h k = at (int_le (raised every p.at.low k) p.at.time && int_lt p.at.time (lowered every period p.at.high k)) refl
     where
       at : (c : Bool) → c ≡ (int_le (raised every p.at.low k) p.at.time && int_lt p.at.time (lowered every period p.at.high k))
-          → AllByRecursion (KeyedFits r) (if c then set_row (raised every p.at.low k) (lowered every period p.at.high k) key p.row ∷ [] else [])
+          → AllByRecursion (KeyedStops r) (if c then set_row (raised every p.at.low k) (lowered every period p.at.high k) key p.row ∷ [] else [])
       at true e =
           let both = and_parts (int_le (raised every p.at.low k) p.at.time) (int_lt p.at.time (lowered every period p.at.high k)) (sym e) in
+          let stop = lowered_in p.at.high (window_stop every period k) p.at.time h.1.2 h.1.0 both.1 in
           (
-            (bounded_rises (raised every p.at.low k) (lowered every period p.at.high k) key rising, set_fits r bounds (raised every p.at.low k) (lowered every period p.at.high k) p.row (raised_in p.at.low (window_start every k) p.at.time h.1.1 h.1.0 both.0)
-            (lowered_in p.at.high (window_stop every period k) p.at.time h.1.2 h.1.0 both.1) h.0),
+            set_stops r (raised every p.at.low k) (lowered every period p.at.high k) key p.row rising stop (set_fits r bounds (raised every p.at.low k) (lowered every period p.at.high k) p.row (raised_in p.at.low (window_start every k) p.at.time h.1.1 h.1.0 both.0) stop h.0),
             tt,
           )
       at false e = tt
 
-  pub copies_fit : (key : Key) (ps : List Placed) → HasRisingLabels key → AllByRecursion (IsPlaced r) ps → AllByRecursion (KeyedFits r) (flat_map (copies every period key) ps)
+  pub copies_stop : (key : Key) (p : Placed) → HasRisingLabels key → IsPlaced r p → AllByRecursion (KeyedStops r) (copies every period key p)
+  copies_stop key p rising h = every_made (KeyedStops r) (copy_in every period key p) (copy_fits key p rising h) (numbers (last_stopped every period p.at.time +ℤ pos 1) (last_started every p.at.time +ℤ pos 1))
+
+  copies_fit : (key : Key) (ps : List Placed) → HasRisingLabels key → AllByRecursion (IsPlaced r) ps → AllByRecursion (KeyedFits r) (flat_map (copies every period key) ps)
   copies_fit key ps rising h =
       each_made (IsPlaced r) (KeyedFits r) (copies every period key)
-      (λ p is. every_made (KeyedFits r) (copy_in every period key p) (copy_fits key p rising is) (numbers (last_stopped every period p.at.time +ℤ pos 1) (last_started every p.at.time +ℤ pos 1))) ps h
+      (λ p is. each_of (KeyedStops r) (KeyedFits r) (λ x k. k.0) (copies every period key p) (copies_stop key p rising is)) ps h
 
   table_safe : (t : Table) → TableFits r t → IsSafe (AllByRecursion (KeyedFits r)) (windowed_table every period t)
   table_safe t fit =

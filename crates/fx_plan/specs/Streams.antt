@@ -62,47 +62,12 @@ module _ (test : Tests) (stored : Stored) where
   unfoldable pub yield_meaning : Stream → ℕ → End (List Table)
   yield_meaning call limit = cut limit (stream_run call limit >>= (λ ts. Gives ts (1 + size_of ts)))
 
--- ---- which operators have a meaning so far
+-- ---- which operators make tables
 
+-- all but a yield, which shows those of a stream
 abbrev pub is_listed : StreamFn → Bool
-is_listed s.From = true
-is_listed s.Texts = true
-is_listed s.Bools = true
-is_listed s.ArrayFrom = true
-is_listed s.Range = true
-is_listed s.Filter = true
-is_listed s.Map = true
-is_listed s.Group = true
-is_listed s.Union = true
-is_listed s.Limit = true
-is_listed s.Tail = true
-is_listed s.Keep = true
-is_listed s.DropColumns = true
-is_listed s.Set = true
-is_listed s.Fill = true
-is_listed s.Duplicate = true
-is_listed s.Min = true
-is_listed s.Max = true
-is_listed s.First = true
-is_listed s.Last = true
-is_listed s.Reduce = true
-is_listed s.Rename = true
-is_listed s.Sort = true
-is_listed s.JoinInner = true
-is_listed s.JoinLeft = true
-is_listed s.JoinRight = true
-is_listed s.JoinFull = true
-is_listed s.JoinTime = true
-is_listed s.Difference = true
-is_listed s.CumulativeSum = true
-is_listed s.Elapsed = true
-is_listed s.Window = true
-is_listed s.Pivot = true
-is_listed s.Count = true
-is_listed s.Sum = true
-is_listed s.Spread = true
-is_listed s.Distinct = true
-is_listed _ = false
+is_listed s.Yield = false
+is_listed _ = true
 
 -- the stream is made of these alone
 abbrev mutual
