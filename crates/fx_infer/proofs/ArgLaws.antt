@@ -21,14 +21,13 @@ use Rattle.fx_schemes.specs.Signature.{form_of}
 use Rattle.fx_schemes.specs.Builtins.{differ}
 use Rattle.fx_schemes.specs.Line.{replaced, take_out, kept}
 use Rattle.fx_unify.specs.declared.bindings.Bindings.{Bindings}
-use Rattle.fx_unify.specs.Solutions.{Solves, next_of}
+use Rattle.fx_unify.specs.Solutions.{next_of}
 use Rattle.fx_ast.specs.declared.expr.Prop.{Prop}
 use Rattle.fx_ast.specs.Shape.{OfProp, tree_of, prop, props_of}
 use Rattle.fx_ast.proofs.ShapeLaws.{prop_is}
 use Rattle.fx_infer.specs.declared.arguments.Argument.{Argument}
 use Rattle.fx_infer.specs.declared.ask.Inferred.{Inferred}
 use Rattle.fx_infer.specs.declared.scope.Name.{Name}
-use Rattle.fx_infer.specs.Arguments.{Elsewhere}
 use Rattle.fx_infer.specs.Ask.{type_is, Scope}
 use Rattle.fx_infer.specs.Callees.{arg_names, IsIdOf, Tells, ArgOf, ArgsOf, FindsArg, AreArgs, WithEntry}
 use Rattle.fx_infer.specs.Environment.{scope}

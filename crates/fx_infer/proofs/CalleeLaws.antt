@@ -1,5 +1,5 @@
 -- What expressions and names are called as.
-use Rattle.std.proofs.Common.{◌≡◌, ◌↔◌, ◌⊎◌, inl, inr, refl, sym, ap, subst, ◌∙◌, ℕ, ◌+◌, ◌<◌, true, false, List, map, drop, take, length, get_or, Option, None, Some}
+use Rattle.std.proofs.Common.{◌≡◌, ◌↔◌, inl, inr, refl, sym, ap, subst, ◌∙◌, ℕ, ◌+◌, ◌<◌, true, false, List, map, drop, take, length, get_or, Option, None, Some}
 use Rattle.std.specs.Borrow.{Bor}
 use mathlib.Core.Bool.{true≢false}
 use Rattle.std.specs.Prelude.{codes, option_map}
@@ -11,7 +11,6 @@ use Rattle.fx_types.specs.Term.{Label}
 use Rattle.fx_schemes.specs.declared.form.Form.TheVariants as form
 use Rattle.fx_schemes.specs.declared.list.Builtin.{Builtin}
 use Rattle.fx_schemes.specs.declared.name.BuiltinId.{BuiltinId}
-use Rattle.fx_schemes.specs.Line.{Line, value}
 use Rattle.fx_schemes.specs.Names.{IsId, builtin_of, id_of}
 use Rattle.fx_ast.specs.declared.expr.Expr.{Expr}
 use Rattle.fx_ast.specs.declared.expr.Body.{Body}
@@ -20,17 +19,17 @@ use Rattle.fx_ast.specs.declared.expr.Node.TheVariants as node
 use Rattle.fx_ast.specs.declared.expr.Param.{Param}
 use Rattle.fx_ast.proofs.ShapeLaws.{shape_name, shape_fun, shape_paren}
 use Rattle.fx_ast.specs.Shape.{tree_of, shape_of, params_of, param, body}
-use Rattle.fx_ast.specs.Tree.{Tree, tree, Shape, int, time, span, text, pattern, name, paren, array, rec, fun, call, pipe, member, index, chain, prefix, if_then}
+use Rattle.fx_ast.specs.Tree.{Tree, tree, int, time, span, text, pattern, name, paren, array, rec, fun, call, pipe, member, index, chain, prefix, if_then}
 use Rattle.fx_infer.specs.declared.callee.Callee.{Callee}
 use Rattle.fx_infer.specs.declared.callee.Callee.TheVariants as called
 use Rattle.fx_infer.specs.declared.scope.Bound.TheVariants as bound
 use Rattle.fx_infer.specs.declared.scope.Name.{Name}
-use Rattle.fx_infer.specs.Ask.{type_is, line_is, builtin_is, Answers, Scope, IsFunction, valued}
+use Rattle.fx_infer.specs.Ask.{type_is, builtin_is, Scope, valued}
 use Rattle.fx_infer.specs.Callees.{is_literal, IsNative, IsValue, IsCalledAs, IsCallee, IsCalleeName}
-use Rattle.fx_infer.specs.Environment.{Env, scope, of_package}
+use Rattle.fx_infer.specs.Environment.{scope, of_package}
 use Rattle.fx_infer.specs.Names.{entry_by, env_under, labels_among}
-use Rattle.fx_infer.specs.Native.{native, natives}
-use Rattle.fx_infer.specs.Typing.{has, has_shape, callee}
+use Rattle.fx_infer.specs.Native.{native}
+use Rattle.fx_infer.specs.Typing.{has, callee}
 use Rattle.fx_infer.specs.Words.{IsInForce}
 use Rattle.fx_infer.proofs.NativeLaws.{found_builtin}
 use Rattle.fx_infer.proofs.WrittenLaws.{at_shape, other_callee}

@@ -1,23 +1,20 @@
 -- Calls of values and of built-ins, as inference.
-use Rattle.std.proofs.Common.{◌≡◌, ◌↔◌, refl, sym, ap, subst, ◌∙◌, ℕ, ◌≤◌, true, false, List, [], ◌∷◌, map, Option, None, Some, arith}
+use Rattle.std.proofs.Common.{◌≡◌, ◌↔◌, refl, sym, ap, subst, ◌∙◌, ℕ, true, false, List, [], map, Option, None, Some}
 use mathlib.Core.Bool.{true≢false}
 use Rattle.std.specs.Prelude.{option_map}
-use Rattle.fx_types.specs.Agree.{Agree}
-use Rattle.fx_types.specs.Ground.{Ground, GroundField, GroundRow, g_fun, g_absent, g_is}
+use Rattle.fx_types.specs.Ground.{Ground, GroundField, GroundRow, g_absent, g_is}
 use Rattle.fx_types.specs.Instance.{Solution, ground, ground_labels, ground_pipe}
 use Rattle.fx_types.specs.Shape.{term, pipe_of}
 use Rattle.fx_types.specs.declared.term.LabelTy.{LabelTy}
 use Rattle.fx_types.specs.declared.term.Ty.{Ty}
 use Rattle.fx_types.proofs.AgreeLaws.{agree_less}
-use Rattle.fx_types.specs.Size.{IsType}
-use Rattle.fx_types.specs.Term.{Label, Term, Pipe, no_pipe}
+use Rattle.fx_types.specs.Term.{Term, Pipe, no_pipe}
 use Rattle.fx_schemes.specs.declared.list.Builtin.{Builtin}
 use Rattle.fx_schemes.specs.Builtins.{differ}
 use Rattle.fx_schemes.specs.Given.{Given}
 use Rattle.fx_schemes.specs.Line.{Line, value}
 use Rattle.fx_unify.specs.declared.bindings.Bindings.{Bindings}
 use Rattle.fx_unify.specs.Solutions.{Solves, next_of}
-use Rattle.fx_unify.specs.Work.{Within}
 use Rattle.fx_ast.specs.declared.expr.Expr.{Expr}
 use Rattle.fx_ast.specs.declared.expr.Prop.{Prop}
 use Rattle.fx_ast.specs.Shape.{tree_of, prop, props_of}

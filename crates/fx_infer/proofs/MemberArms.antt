@@ -5,7 +5,7 @@ use Rattle.std.specs.Prelude.{codes}
 use Rattle.fx_base.specs.Text.{same_text}
 use Rattle.fx_base.specs.declared.place.Place.{Place}
 use Rattle.fx_ast.specs.Bare.{bare_shape}
-use Rattle.fx_ast.specs.Tree.{Tree, tree, Shape, int, time, span, text, pattern, name, paren, array, rec, fun, call, pipe, member, index, chain, prefix, if_then}
+use Rattle.fx_ast.specs.Tree.{Tree, tree, Shape, name, paren, rec, member}
 use Rattle.fx_ast.specs.Shape.{tree_of, shape_of}
 use Rattle.fx_ast.specs.declared.expr.Expr.{Expr}
 use Rattle.fx_ast.specs.declared.expr.Node.{Node}
@@ -22,10 +22,10 @@ use Rattle.fx_schemes.specs.Names.{builtin_of}
 use Rattle.fx_infer.specs.declared.scope.Bound as bounds
 use Rattle.fx_infer.specs.declared.scope.Bound.TheVariants as bound
 use Rattle.fx_infer.specs.declared.scope.Name.{Name}
-use Rattle.fx_infer.specs.Ask.{Ask, type_is, package_is, Scope, either, of_type}
+use Rattle.fx_infer.specs.Ask.{Ask, type_is, package_is, Scope, either}
 use Rattle.fx_infer.specs.Environment.{Entry, param, assigned, imported, Env, scope}
 use Rattle.fx_infer.specs.Members.{IsPackage}
-use Rattle.fx_infer.specs.Names.{entry_by, entry_under, env_under, labels_among, TypeOf, ShapeOf, IsNewest}
+use Rattle.fx_infer.specs.Names.{entry_by, env_under, labels_among, TypeOf, ShapeOf}
 use Rattle.fx_infer.specs.Native.{native, natives, in_package}
 use Rattle.fx_infer.specs.Rules.{HasField}
 use Rattle.fx_infer.specs.Typing.{has, has_shape}

@@ -1,6 +1,6 @@
 -- Types of built-ins as values, and of variables, as inference.
 use Rattle.std.proofs.Common.{◌≡◌, ◌↔◌, refl, sym, ap, subst, ◌∙◌, ℕ, ◌≤◌, max, [], Option, None, Some, arith}
-use Rattle.std.specs.Prelude.{codes, option_map}
+use Rattle.std.specs.Prelude.{option_map}
 use Rattle.fx_types.specs.Ground.{Ground}
 use Rattle.fx_types.specs.Instance.{Solution, ground}
 use Rattle.fx_types.specs.Numbers.{numbers, numbers_labels}

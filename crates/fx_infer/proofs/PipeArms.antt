@@ -1,5 +1,5 @@
 -- Inference of calls one after another, each with what the one before gives.
-use Rattle.std.proofs.Common.{◌≡◌, ◌↔◌, refl, sym, ap, subst, ℕ, zero, suc, ◌+◌, ◌≤◌, ◌<◌, List, [], ◌∷◌, map, take, length, get_or, arith}
+use Rattle.std.proofs.Common.{◌≡◌, ◌↔◌, refl, sym, subst, ℕ, zero, suc, ◌+◌, ◌≤◌, ◌<◌, List, [], ◌∷◌, map, take, length, get_or, arith}
 use Rattle.fx_ast.specs.Tree.{Tree, tree, call, pipe}
 use Rattle.fx_ast.specs.Shape.{tree_of, trees_of}
 use Rattle.fx_ast.specs.declared.expr.Expr.{Expr}
@@ -10,12 +10,12 @@ use Rattle.fx_types.proofs.Lists.{take_all}
 use Rattle.fx_unify.specs.declared.bindings.Bindings.{Bindings}
 use Rattle.fx_unify.specs.Solutions.{next_of}
 use Rattle.fx_infer.specs.declared.scope.Name.{Name}
-use Rattle.fx_infer.specs.Ask.{type_is, Scope}
+use Rattle.fx_infer.specs.Ask.{Scope}
 use Rattle.fx_infer.specs.Callees.{PipedOf}
 use Rattle.fx_infer.specs.Environment.{scope}
 use Rattle.fx_infer.specs.Infers.{Infers, HasNone}
 use Rattle.fx_infer.specs.Names.{env_under, NamesBelow, TypeOf, ShapeOf}
-use Rattle.fx_infer.specs.Typing.{has, has_pipes, has_pipe}
+use Rattle.fx_infer.specs.Typing.{has_pipes, has_pipe}
 use Rattle.fx_infer.proofs.InfersLaws.{Reads, both, instead, none_second, seen_as}
 use Rattle.fx_infer.proofs.TypingLaws.{typed_type}
 

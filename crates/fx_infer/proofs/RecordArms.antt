@@ -1,10 +1,8 @@
 -- Inference of records from that of their properties and of the row behind them.
 use Rattle.std.proofs.Common.{◌≡◌, ◌↔◌, refl, sym, ap, subst, ◌∙◌, ℕ, zero, suc, ◌+◌, ◌≤◌, ◌<◌, true, false, List, [], ◌∷◌, ◌++◌, map, take, length, get_or, Option, None, Some}
-use Rattle.std.specs.Prelude.{if◌then◌else◌}
 use Rattle.std.proofs.lemmas.List.{map_more}
 use mathlib.Core.Bool.{true≢false}
 use Rattle.fx_base.specs.Text.{same_text}
-use Rattle.fx_ast.specs.Lists.{prop_list}
 use Rattle.fx_ast.specs.Shape.{OfProp, tree_of, prop, props_of}
 use Rattle.fx_ast.specs.Tree.{rec, name}
 use Rattle.fx_ast.specs.declared.expr.Prop.{Prop}

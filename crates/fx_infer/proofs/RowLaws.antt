@@ -3,12 +3,12 @@ use Rattle.std.proofs.Common.{◌≡◌, ◌↔◌, refl, sym, ap, subst, ◌∙
 use Rattle.std.specs.Prelude.{if◌then◌else◌}
 use Rattle.fx_base.specs.Text.{same_text}
 use Rattle.fx_types.specs.Agree.{Agree}
-use Rattle.fx_types.specs.Ground.{Ground, GroundRow, g_rec, g_absent}
+use Rattle.fx_types.specs.Ground.{GroundRow, g_rec, g_absent}
 use Rattle.fx_types.specs.Instance.{Solution, ground, ground_field, ground_fields, ground_tail}
 use Rattle.fx_types.specs.Numbers.{numbers}
-use Rattle.fx_types.specs.Shape.{term, rest_term, entry_term, fields_of}
+use Rattle.fx_types.specs.Shape.{rest_term, entry_term, fields_of}
 use Rattle.fx_types.specs.Size.{IsType}
-use Rattle.fx_types.specs.Term.{Label, Term, Fields, rec, is, default, row_variable, no_fields, more_fields}
+use Rattle.fx_types.specs.Term.{Label, Term, rec, is, default, row_variable, no_fields, more_fields}
 use Rattle.fx_types.specs.declared.term.FieldTy.TheVariants as fields
 use Rattle.fx_types.specs.declared.term.LabelField.{LabelField}
 use Rattle.fx_types.specs.declared.term.Rest.TheVariants as rests

@@ -7,11 +7,10 @@ use Rattle.fx_schemes.specs.declared.form.Form.{Form}
 use Rattle.fx_schemes.specs.declared.form.Form.TheVariants as form
 use Rattle.fx_schemes.specs.declared.given.LabelWords.{LabelWords}
 use Rattle.fx_schemes.specs.declared.list.Builtin.{Builtin}
-use Rattle.fx_schemes.specs.Given.{Given}
 use Rattle.fx_schemes.specs.Signature.{form_of}
-use Rattle.fx_ast.proofs.ShapeLaws.{tree_is, prop_is, shape_array, shape_name, shape_rec}
+use Rattle.fx_ast.proofs.ShapeLaws.{tree_is, prop_is, shape_array, shape_name}
 use Rattle.fx_ast.specs.Shape.{part, parts_of, prop, props_of, shape_of, tree_of, trees_of, node_shape, kind_shape, part_shape, body_shape, expr_shape, link_shape, param_shape, prop_shape, body, link, param, OfPart, a_piece, a_hole, OfBody, OfLink, OfParam, OfProp}
-use Rattle.fx_ast.specs.Tree.{Tree, tree, Shape, Default, text, name, array, rec}
+use Rattle.fx_ast.specs.Tree.{Tree, tree, Shape, Default, text, name, array}
 use Rattle.fx_ast.specs.declared.expr.Body.{Body}
 use Rattle.fx_ast.specs.declared.expr.Expr.{Expr}
 use Rattle.fx_ast.specs.declared.expr.Link.{Link}

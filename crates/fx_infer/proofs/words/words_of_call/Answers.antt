@@ -1,6 +1,5 @@
-use Rattle.std.proofs.Common.{◌∙◌, sym, ap, refl}
-use Rattle.fx_infer.proofs.WrittenLaws.{words_in, no_form, with_form, read_more, read_past, read_none, read_all}
-use Rattle.fx_schemes.specs.Written.{with_first}
+use Rattle.std.proofs.Common.{◌∙◌, sym}
+use Rattle.fx_infer.proofs.WrittenLaws.{words_in, no_form, with_form, read_more, read_past, read_none}
 use Rattle.fx_infer.proofs.words.words_of_call.Goals as goal
 
 pub loop-arg-preserved-in-None : goal.loop-arg-preserved-in-None

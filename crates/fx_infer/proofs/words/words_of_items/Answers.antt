@@ -1,4 +1,4 @@
-use Rattle.std.proofs.Common.{◌∙◌, ap, sym, None}
+use Rattle.std.proofs.Common.{◌∙◌, ap, sym}
 use Rattle.fx_schemes.specs.Written.{many_words}
 use Rattle.fx_infer.proofs.WrittenLaws.{no_array, items_said, many_said}
 use Rattle.fx_infer.proofs.words.words_of_items.Goals as goal
