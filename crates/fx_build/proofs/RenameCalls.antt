@@ -1,9 +1,8 @@
 -- `rename` of streams that fit is safe.
 use Rattle.std.proofs.Common.{◌≡◌, refl, sym, ap, subst, ◌∙◌, Bool, true, false, ◌&&◌, not, List, [], ◌∷◌, map, length, Some, None, T, arith}
-use Rattle.std.specs.Prelude.{cond, if◌then◌else◌, codes, IsTrue, fold, ◌==◌}
+use Rattle.std.specs.Prelude.{cond, if◌then◌else◌, codes, IsTrue, fold, ◌==◌, ◌||◌}
 use Rattle.std.specs.FinMap as fin
 use Rattle.std.specs.FinMap.{entries, get, get-empty, insert}
-use Rattle.std.specs.FinMap.Entries.{by_order, is_sorted, is_sorted-put, put as put_entry}
 use Rattle.std.specs.List.{AllByRecursion, filter, flat_map}
 use Rattle.std.specs.List.Sorted.{IsStrictlySortedBy}
 use Rattle.std.specs.declared.cmp.Ordering.TheVariants.{Less, Equal, Greater}
@@ -17,8 +16,7 @@ use Rattle.fx_value.specs.declared.scalar.Scalar.{Scalar}
 use Rattle.fx_types.proofs.Choices.{by_cases, chosen, passed}
 use Rattle.fx_types.specs.Ground.{GroundField, GroundRow, g_stream, g_absent, g_is, g_bool, g_int, g_text, g_time, is_plain, listed}
 use Rattle.fx_types.specs.Term.{Label}
-use Rattle.fx_data.proofs.Sorted.{keys_rise, sorted_keys}
-use Rattle.fx_data.specs.Columns.{entry_of, parts_of}
+use Rattle.fx_data.specs.Columns.{key_with}
 use Rattle.fx_data.specs.Table.{HasRisingLabels, shown}
 use Rattle.fx_data.specs.declared.key.Key.{Key}
 use Rattle.fx_data.specs.declared.key.KeyEntry.{KeyEntry}
@@ -32,7 +30,7 @@ use Rattle.fx_meaning.specs.Meaning.{Tests}
 use Rattle.fx_group.proofs.Unstuck.{each_of}
 use Rattle.fx_shape.specs.Changed.{all_moved, is_bare, rows_after}
 use Rattle.fx_group.specs.Group.{is_listed as is_named}
-use Rattle.fx_shape.specs.Rename.{columns_renamed, entry_renamed, is_covered, key_renamed, new_name, row_renamed}
+use Rattle.fx_shape.specs.Rename.{columns_renamed, entry_renamed, is_covered, key_renamed, new_name, pinned_key, row_renamed}
 use Rattle.fx_meaning.specs.Rows.{Row}
 use Rattle.fx_plan.specs.Operators.{renamed_by, renamed_in}
 use Rattle.fx_build.specs.Rows.{EntryFits, KeyFits, RowFits, TablesFit, is_column_of}
@@ -41,7 +39,7 @@ use Rattle.fx_plan.specs.Sources.{Stored}
 use Rattle.fx_build.proofs.OperatorCalls.{OperatorIsSafe, by_line, one_safe}
 use Rattle.fx_build.proofs.TableLaws.{KeyedFits, regrouped_with_all}
 use Rattle.fx_build.proofs.ColumnCalls.{get_left, named_listed}
-use Rattle.fx_build.proofs.KeyLaws.{entries_found}
+use Rattle.fx_build.proofs.KeyLaws.{again_key, entries_found}
 use Rattle.fx_build.proofs.RowLaws.{get_inserted, no_columns}
 use Rattle.fx_plan.proofs.SlotLaws.{same_itself}
 
@@ -189,52 +187,14 @@ rises_kept p (e ∷ es) h =
       | false ↦ rises_kept p es h.1
     ]
 
-abbrev Parts : Type 0
-Parts = List (Label × (Scalar × Bool))
-
-labels_of_parts : (es : List KeyEntry) → map (λ e. e.label) es ≡ map (λ p. p.0) (map parts_of es)
-labels_of_parts [] = refl
-labels_of_parts (e ∷ es) = ap (λ ls. e.label ∷ ls) (labels_of_parts es)
-
-labels_of_entries : (ps : Parts) → map (λ p. p.0) ps ≡ map (λ e. e.label) (map entry_of ps)
-labels_of_entries [] = refl
-labels_of_entries (p ∷ ps) = ap (λ ls. p.0 ∷ ls) (labels_of_entries ps)
-
-put_sorted : (es : List KeyEntry) (ps : Parts) → T (is_sorted text_cmp ps) → T (is_sorted text_cmp (fold (λ out e. put_entry text_cmp e.label (e.value, e.pinned) out) ps es))
-put_sorted [] ps h = h
-put_sorted (e ∷ es) ps h = put_sorted es (put_entry text_cmp e.label (e.value, e.pinned) ps) (is_sorted-put text_cmp nat_list_cmp_total e.label (e.value, e.pinned) ps h)
-
-key_rises : (olds news : List Label) (key : Key) → HasRisingLabels key → HasRisingLabels (key_renamed olds news key)
-key_rises olds news key h =
-    let into = filter (λ e. e.pinned) key.entries in
-    let sorted = sorted_keys text_cmp (map parts_of into) (subst (IsStrictlySortedBy text_cmp) (labels_of_parts into) (rises_kept (λ e. e.pinned) key.entries h)) in
-    let es = map (entry_renamed olds news) (filter (λ e. not e.pinned && not (is_covered olds news e.label)) key.entries) in
-    subst (IsStrictlySortedBy text_cmp) (labels_of_entries _) (keys_rise text_cmp _ (put_sorted es (map parts_of into) sorted))
-
 module _ (q : GroundRow) where
-  abbrev PartFits : Label × (Scalar × Bool) → Type 0
-  PartFits p = EntryFits q (entry_of p)
-
-  part_put : (x : Label) (v : Scalar × Bool) (ps : Parts) → PartFits (x, v) → AllByRecursion PartFits ps → AllByRecursion PartFits (put_entry text_cmp x v ps)
-  part_put x v [] is h = (is, tt)
-  part_put x v (p ∷ ps) is h =
-      elim (text_cmp x p.0) as (λ o. text_cmp x p.0 ≡ o → AllByRecursion PartFits (by_order o ((x, v) ∷ p ∷ ps) ((p.0, v) ∷ ps) (p ∷ put_entry text_cmp x v ps))) [
-        | Less ↦ λ o. (is, h)
-        | Equal ↦ λ o. (subst (λ l. PartFits (l, v)) (text_same x p.0 o) is, h.1)
-        | Greater ↦ λ o. (h.0, part_put x v ps is h.1)
-      ] refl
-
-  parts_put : (es : List KeyEntry) (ps : Parts) → AllByRecursion (EntryFits q) es → AllByRecursion PartFits ps → AllByRecursion PartFits (fold (λ out e. put_entry text_cmp e.label (e.value, e.pinned) out) ps es)
-  parts_put [] ps h all = all
-  parts_put (e ∷ es) ps h all = parts_put es (put_entry text_cmp e.label (e.value, e.pinned) ps) h.1 (part_put e.label (e.value, e.pinned) ps h.0 all)
-
-  of_parts : (ps : Parts) → AllByRecursion PartFits ps → AllByRecursion (EntryFits q) (map entry_of ps)
-  of_parts [] h = tt
-  of_parts (p ∷ ps) h = (h.0, of_parts ps h.1)
-
-  in_parts : (es : List KeyEntry) → AllByRecursion (EntryFits q) es → AllByRecursion PartFits (map parts_of es)
-  in_parts [] h = tt
-  in_parts (e ∷ es) h = (h.0, in_parts es h.1)
+  -- one entry more, whose value fits the label
+  entry_put : (out : Key) (x : Label) (a : Scalar) → IsTrue (is_column_of (q x) (Some a)) → KeyFits q out → KeyFits q (key_with out x a)
+  entry_put out x a h k = at (q x) refl h
+    where
+      at : (f : GroundField) → f ≡ q x → IsTrue (is_column_of f (Some a)) → KeyFits q (key_with out x a)
+      at g_absent e h = absurd (false≢true h)
+      at (g_is t) e h = again_key q x t a (sym e) h out k
 
   -- nothing that is pinned shows
   pinned_fit : ((l : Label) → IsTrue (is_plain (q l))) → (es : List KeyEntry) → AllByRecursion (EntryFits q) (filter (λ e. e.pinned) es)
@@ -245,28 +205,31 @@ module _ (q : GroundRow) where
       step true k rest = (subst (λ b. IsTrue (is_column_of (q e.label) (if b then None else Some e.value))) k (plain_null (q e.label) (plain e.label)), rest)
       step false k rest = rest
 
+neither : (c d : Bool) → (c || d) ≡ false → (c ≡ false) × (d ≡ false)
+neither true d h = absurd (true≢false h)
+neither false d h = (refl, h)
+
 module _ (olds news : List Label) (r : GroundRow) (same : length olds ≡ length news) (once : differ news ≡ true) where
-  columns_fit : (es : List KeyEntry) → AllByRecursion (EntryFits r) es
-      → AllByRecursion (EntryFits (made olds news r same once)) (map (entry_renamed olds news) (filter (λ e. not e.pinned && not (is_covered olds news e.label)) es))
-  columns_fit [] h = tt
-  columns_fit (e ∷ es) h = step (not e.pinned && not (is_covered olds news e.label)) refl (columns_fit es h.1)
+  entry_moved : (out : Key) (e : KeyEntry) → EntryFits r e → KeyFits (made olds news r same once) out → KeyFits (made olds news r same once) (entry_renamed olds news out e)
+  entry_moved out e h k = at (e.pinned || is_covered olds news e.label) refl
     where
-      step : (c : Bool) → c ≡ (not e.pinned && not (is_covered olds news e.label))
-          → AllByRecursion (EntryFits (made olds news r same once)) (map (entry_renamed olds news) (filter (λ e. not e.pinned && not (is_covered olds news e.label)) es))
-          → AllByRecursion (EntryFits (made olds news r same once)) (map (entry_renamed olds news) (cond c (e ∷ filter (λ e. not e.pinned && not (is_covered olds news e.label)) es) (filter (λ e. not e.pinned && not (is_covered olds news e.label)) es)))
-      step true k rest = (
-        subst (λ f. IsTrue (is_column_of f (shown e))) (sym (kept_type olds news r same once e.label (and_parts (not e.pinned) (not (is_covered olds news e.label)) (sym k)).1)) h.0,
-        rest,
-      )
-      step false k rest = rest
+      at : (c : Bool) → c ≡ (e.pinned || is_covered olds news e.label) → KeyFits (made olds news r same once) (if c then out else key_with out (new_name olds news e.label) e.value)
+      at true i = k
+      at false i =
+          let parts = neither e.pinned (is_covered olds news e.label) (sym i) in
+          entry_put (made olds news r same once) out (new_name olds news e.label) e.value
+          (subst (λ f. IsTrue (is_column_of f (Some e.value))) (sym (kept_type olds news r same once e.label (ap not parts.1)))
+          (subst (λ b. IsTrue (is_column_of (r e.label) (if b then None else Some e.value))) parts.0 h)) k
+
+  entries_moved : (es : List KeyEntry) (out : Key) → AllByRecursion (EntryFits r) es → KeyFits (made olds news r same once) out
+      → KeyFits (made olds news r same once) (fold (entry_renamed olds news) out es)
+  entries_moved [] out h k = k
+  entries_moved (e ∷ es) out h k = entries_moved es (entry_renamed olds news out e) h.1 (entry_moved out e h.0 k)
 
   pub key_fits : ((l : Label) → IsTrue (is_plain (made olds news r same once l))) → (key : Key) → KeyFits r key → KeyFits (made olds news r same once) (key_renamed olds news key)
   key_fits plain key h =
-      let q = made olds news r same once in
-      (
-        key_rises olds news key h.0,
-        of_parts q _ (parts_put q _ _ (columns_fit key.entries h.1) (in_parts q _ (pinned_fit q plain key.entries))),
-      )
+      entries_moved key.entries (pinned_key key) h.1
+      (rises_kept (λ e. e.pinned) key.entries h.0, pinned_fit (made olds news r same once) plain key.entries)
 
 -- ---- tables
 
