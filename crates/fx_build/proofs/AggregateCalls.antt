@@ -1,5 +1,5 @@
 -- Operators that make one row of each table, or one of each differing value, are safe.
-use Rattle.std.proofs.Common.{◌≡◌, refl, sym, subst, ◌∙◌, Bool, true, false, ◌&&◌, not, List, [], ◌∷◌, ◌++◌, map, length, ℤ, ◌-ℤ◌, pos, Option, Some, None}
+use Rattle.std.proofs.Common.{◌≡◌, refl, sym, subst, Bool, true, false, not, List, [], ◌∷◌, ◌++◌, map, length, ℤ, ◌-ℤ◌, pos, Option, Some, None}
 use Rattle.std.specs.Prelude.{codes, if◌then◌else◌, cond, IsTrue}
 use Rattle.std.specs.FinMap as fin
 use Rattle.std.specs.FinMap.{get}
@@ -11,18 +11,16 @@ use Rattle.fx_base.specs.Text.{same_text}
 use Rattle.fx_base.specs.declared.fault.FaultKind.TheVariants.{Overflow}
 use Rattle.fx_base.specs.declared.place.Place.{Place}
 use Rattle.fx_value.specs.Change.{all_changed}
-use Rattle.fx_value.specs.Ends.{End, Gives, Faults, and_then}
+use Rattle.fx_value.specs.Ends.{End, Gives, Faults}
 use Rattle.fx_value.specs.Scalar.{scalar_cmp}
 use Rattle.fx_value.specs.declared.change.Change.TheVariants.{Set}
-use Rattle.fx_value.specs.declared.scalar.Kind.TheVariants as kind
 use Rattle.fx_value.specs.declared.scalar.Scalar.{Scalar}
 use Rattle.fx_value.specs.declared.scalar.Scalar.TheVariants as scalar
 use Rattle.fx_types.proofs.Choices.{passed}
-use Rattle.fx_types.specs.Ground.{Ground, GroundField, GroundRow, g_int, g_stream, g_absent, g_is, is_plain}
+use Rattle.fx_types.specs.Ground.{Ground, GroundRow, g_int, g_stream, g_absent, g_is, is_plain}
 use Rattle.fx_types.specs.Term.{Label}
 use Rattle.fx_data.proofs.Lawful.{all-append}
 use Rattle.fx_data.specs.Regrouped.{regrouped}
-use Rattle.fx_data.specs.Table.{HasRisingLabels, shown}
 use Rattle.fx_data.specs.declared.key.Key.{Key}
 use Rattle.fx_data.specs.declared.key.KeyEntry.{KeyEntry}
 use Rattle.fx_data.specs.declared.table.Table.{Table}

@@ -30,18 +30,17 @@ use Rattle.fx_window.specs.Lengths.{is_length}
 use Rattle.fx_schemes.specs.Builtins.{IsLine, Counts, Ends, Extremes, Folds, Sums}
 use Rattle.fx_schemes.specs.Folds.{fold_of, folds}
 use Rattle.fx_schemes.specs.Given.{text_at}
-use Rattle.fx_schemes.specs.Line.{HasBounds, from_tables, parameters, put, take_out}
+use Rattle.fx_schemes.specs.Line.{from_tables, parameters, put, take_out}
 use Rattle.fx_table.specs.CaseTable.{value_at}
 use Rattle.fx_meaning.specs.declared.stream.StreamFn.TheVariants as s
-use Rattle.fx_meaning.specs.Ends.{◌>>=◌, fault_at, found, pure}
+use Rattle.fx_meaning.specs.Ends.{◌>>=◌, found, pure}
 use Rattle.fx_meaning.specs.Meaning.{Tests}
-use Rattle.fx_meaning.specs.Rows.{Row}
-use Rattle.fx_meaning.specs.Value.{Val, Slots, look, span}
+use Rattle.fx_meaning.specs.Value.{Val, Slots, look}
 use Rattle.fx_plan.specs.Operators.{aggregate_named, by_windows, flag_or, length_at, no_argument, windows_counted}
 use Rattle.fx_plan.specs.Sources.{Stored}
 use Rattle.fx_build.specs.Bound.{typed}
 use Rattle.fx_build.specs.Fit.{fits, keeps_at}
-use Rattle.fx_build.specs.Rows.{KeyFits, RowFits, TablesFit}
+use Rattle.fx_build.specs.Rows.{RowFits, TablesFit}
 use Rattle.fx_build.specs.Safe.{IsSafe}
 use Rattle.fx_build.proofs.AggregateCalls.{IsValue, spread_value, sum_value, valued_fits, whole_safe}
 use Rattle.fx_build.proofs.ChoiceCalls.{Is, best_is}

@@ -1,5 +1,5 @@
 -- Tables that are cut into windows and put together again.
-use Rattle.std.proofs.Common.{◌≡◌, ◌<◌, refl, sym, ap, subst, ◌∙◌, inl, inr, Bool, true, false, List, [], ◌∷◌, map, ℕ, ◌+◌, ℤ, pos, ◌+ℤ◌, ◌-ℤ◌, unsigned_abs, FitsSigned, w64, Option, Some, None, arith}
+use Rattle.std.proofs.Common.{◌≡◌, ◌<◌, refl, sym, ap, subst, inl, inr, Bool, true, false, List, [], ◌∷◌, map, ◌+◌, ℤ, pos, ◌+ℤ◌, ◌-ℤ◌, unsigned_abs, FitsSigned, w64, Option, Some, None, arith}
 use Rattle.std.specs.Prelude.{◌<ℤ◌, ◌≤ℤ◌, ◌↔◌, codes, if◌then◌else◌, int_lt, IsTrue}
 use Rattle.std.specs.FinMap as fin
 use Rattle.std.specs.FinMap.{insert}

@@ -1,9 +1,7 @@
 -- The rows of joins.
-use Rattle.std.proofs.Common.{◌≡◌, sym, subst, ◌∙◌, Bool, true, false, List, [], ◌∷◌, ◌++◌, map, length, ℕ, Option, Some, None, arith}
+use Rattle.std.proofs.Common.{sym, subst, Bool, true, false, List, [], ◌∷◌, ◌++◌, map, ℕ, Option, Some, None}
 use Rattle.std.specs.Prelude.{if◌then◌else◌, filter_map}
-use Rattle.std.specs.declared.cmp.Ordering.TheVariants.{Less, Equal, Greater}
 use Rattle.std.specs.FinMap as fin
-use Rattle.std.specs.FinMap.Entries.{by_order, put}
 use Rattle.std.proofs.lemmas.Grind.{flat_map-append}
 use Rattle.std.proofs.lemmas.List.{append-nil}
 use Rattle.std.specs.List.{AllByRecursion}
@@ -15,7 +13,6 @@ use Rattle.fx_data.specs.Key.{key_cmp}
 use Rattle.fx_data.specs.Regrouped.{regrouped}
 use Rattle.fx_data.specs.Table.{HasRisingLabels}
 use Rattle.fx_data.specs.declared.key.Key.{Key}
-use Rattle.fx_data.specs.declared.keyed_row.KeyedRow.{KeyedRow}
 use Rattle.fx_data.specs.declared.table.Table.{Table}
 use Rattle.fx_data.proofs.Keys.{key_cmp_total}
 use Rattle.fx_data.proofs.Lawful.{all-append}

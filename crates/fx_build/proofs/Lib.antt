@@ -46,4 +46,5 @@ pub mod TakenLaws
 pub mod WindowCalls
 pub mod WordLaws
 pub mod Worked
+pub mod ListedLaws
 pub mod ListedRuns

@@ -5,10 +5,8 @@ use Rattle.fx_data.specs.declared.table.Table.{Table}
 use Rattle.fx_infer.specs.Script.{HasTyping}
 use Rattle.fx_meaning.specs.declared.setting.Setting.{Setting}
 use Rattle.fx_meaning.specs.Meaning.{Tests}
-use Rattle.fx_meaning.specs.Value.{Stream}
-use Rattle.fx_types.specs.Ground.{GroundRow, g_stream}
+use Rattle.fx_types.specs.Ground.{GroundRow}
 use Rattle.fx_value.specs.Ends.{End}
-use Rattle.fx_build.specs.Fit.{stream_fits}
 use Rattle.fx_build.specs.Rows.{TablesFit}
 use Rattle.fx_build.specs.Run.{script_run}
 use Rattle.fx_build.specs.Safe.{IsSafe}

@@ -16,7 +16,7 @@ use Rattle.fx_schemes.specs.Signature.{Signature, IsFunctionOf, HasSignature, Is
 use Rattle.fx_schemes.specs.declared.form.Form.{Form}
 use Rattle.fx_schemes.specs.declared.list.Builtin.{Builtin}
 use Rattle.fx_schemes.specs.declared.list.Builtin.TheVariants as b
-use Rattle.fx_meaning.specs.Value.{Val, Slots, no_slots, more_slots, look, is_there, push}
+use Rattle.fx_meaning.specs.Value.{Val, Slots, no_slots, more_slots, look, is_there}
 use Rattle.fx_build.specs.Fit.{with_input}
 use Rattle.fx_plan.specs.Said.{and_says, said_in}
 use Rattle.fx_build.proofs.ParamLaws.{Suits, absent_suits, all_pass, passes}

@@ -11,10 +11,10 @@ use mathlib.Core.Bool.{false≢true}
 use Rattle.fx_base.specs.Text.{same_text}
 use Rattle.fx_base.specs.declared.fault.FaultKind.TheVariants.{PivotName}
 use Rattle.fx_base.specs.declared.place.Place.{Place}
-use Rattle.fx_value.specs.Ends.{End, Gives, Faults, Stuck, and_then}
+use Rattle.fx_value.specs.Ends.{Gives, Faults, Stuck, and_then}
 use Rattle.fx_value.specs.declared.scalar.Scalar.{Scalar}
 use Rattle.fx_value.specs.declared.scalar.Scalar.TheVariants as scalar
-use Rattle.fx_types.specs.Ground.{Ground, GroundField, GroundRow, g_stream, g_text, g_absent, g_is, is_plain, listed}
+use Rattle.fx_types.specs.Ground.{Ground, GroundRow, g_stream, g_text, g_is, is_plain, listed}
 use Rattle.fx_types.specs.Term.{Label}
 use Rattle.fx_data.proofs.Lawful.{bare_lawful}
 use Rattle.fx_data.specs.Regrouped.{bare, regrouped}
@@ -30,7 +30,7 @@ use Rattle.fx_pivot.specs.Pivot.{are_apart as stand_apart, based, collected, key
 use Rattle.fx_pivot.specs.Hidden.{Cell}
 use Rattle.fx_schemes.specs.Builtins.{IsLine, apart, are_apart}
 use Rattle.fx_schemes.specs.Given.{list_at, text_at}
-use Rattle.fx_schemes.specs.Line.{EachIs, HasAll, IsKind, from_tables, kept, parameters, put}
+use Rattle.fx_schemes.specs.Line.{EachIs, HasAll, from_tables, kept, parameters, put}
 use Rattle.fx_meaning.specs.declared.stream.StreamFn.TheVariants as s
 use Rattle.fx_meaning.specs.Ends.{◌>>=◌, found}
 use Rattle.fx_meaning.specs.Meaning.{Tests}

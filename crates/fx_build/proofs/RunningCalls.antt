@@ -1,5 +1,5 @@
 -- Operators that go through the rows of each table in order are safe.
-use Rattle.std.proofs.Common.{◌≡◌, refl, sym, ap, subst, Bool, true, false, List, [], ◌∷◌, ℤ, pos, Option, Some, None}
+use Rattle.std.proofs.Common.{◌≡◌, refl, subst, Bool, true, false, List, [], ◌∷◌, ℤ, Option, Some, None}
 use Rattle.std.specs.Prelude.{codes, if◌then◌else◌, int_div, IsTrue, ◌-ℤ◌}
 use Rattle.std.specs.FinMap.{get, insert}
 use Rattle.std.specs.List.{AllByRecursion}
@@ -22,11 +22,11 @@ use Rattle.fx_schemes.specs.Builtins.{IsLine}
 use Rattle.fx_schemes.specs.Given.{text_at}
 use Rattle.fx_schemes.specs.Line.{from_tables, parameters, put}
 use Rattle.fx_meaning.specs.declared.stream.StreamFn.TheVariants as s
-use Rattle.fx_meaning.specs.Ends.{◌>>=◌, found, pure}
+use Rattle.fx_meaning.specs.Ends.{◌>>=◌, found}
 use Rattle.fx_meaning.specs.Forms.{span_in}
 use Rattle.fx_meaning.specs.Meaning.{Tests}
 use Rattle.fx_meaning.specs.Rows.{Row}
-use Rattle.fx_meaning.specs.Value.{Val, span, Slots, look}
+use Rattle.fx_meaning.specs.Value.{Val, Slots, look}
 use Rattle.fx_plan.specs.Operators.{at_listed, passed_in, second, span_or}
 use Rattle.fx_plan.specs.Sources.{Stored}
 use Rattle.fx_build.specs.Bound.{typed}

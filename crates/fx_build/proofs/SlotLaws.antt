@@ -1,5 +1,5 @@
 -- What stands at a label, against what an environment says.
-use Rattle.std.proofs.Common.{◌≡◌, Bool, true, false, Option, None, Some}
+use Rattle.std.proofs.Common.{Bool, true, false, Option, None, Some}
 use Rattle.std.specs.Prelude.{if◌then◌else◌}
 use Rattle.fx_base.specs.Text.{same_text}
 use Rattle.fx_types.specs.Term.{Label}

@@ -2,7 +2,6 @@
 use Rattle.std.proofs.Common.{◌≡◌, refl, sym, ap, subst, ◌∙◌, Bool, true, false, ◌&&◌, not, ◌||◌, List, [], ◌∷◌, ◌++◌, map, filter_map, ℤ, Option, Some, None}
 use Rattle.std.specs.Prelude.{codes, cond, if◌then◌else◌, IsTrue}
 use Rattle.std.specs.Cmp.Lexicographic.{same_text as equal_text}
-use Rattle.std.specs.FinMap as fin
 use Rattle.std.specs.FinMap.{get, insert}
 use Rattle.std.specs.FinMap.Entries.{by_order, find, put as put_entry}
 use Rattle.std.specs.List.{AllByRecursion, cons_option, filter, list_any}
@@ -32,7 +31,6 @@ use Rattle.fx_agg.specs.OneRow.{is_shown, is_time, pinned_time, set_entry}
 use Rattle.fx_group.specs.RangeRows.{bounded_key, set_row}
 use Rattle.fx_window.specs.Uncut.{value_of}
 use Rattle.fx_meaning.specs.Rows.{Row}
-use Rattle.fx_plan.proofs.SlotLaws.{same_itself}
 use Rattle.fx_build.specs.Rows.{KeyFits, RowFits}
 use Rattle.fx_build.proofs.KeyLaws.{entries_with, tied_back}
 use Rattle.fx_build.proofs.RowLaws.{get_inserted, tied}

@@ -19,7 +19,6 @@ use Rattle.fx_schemes.specs.Given.{Given}
 use Rattle.fx_schemes.specs.Line.{Line, parameters}
 use Rattle.fx_schemes.specs.Signature.{form_of}
 use Rattle.fx_schemes.specs.declared.form.Form.{Form}
-use Rattle.fx_schemes.specs.declared.list.Builtin.{Builtin}
 use Rattle.fx_schemes.specs.declared.list.Builtin.TheVariants as b
 use Rattle.fx_meaning.specs.declared.native.Native.TheVariants as n
 use Rattle.fx_meaning.specs.declared.stream.StreamFn.{StreamFn}
@@ -33,7 +32,7 @@ use Rattle.fx_meaning.specs.Value.{Val, cell, stream, shown, Vals, no_vals, more
 use Rattle.fx_build.specs.Bound.{typed}
 use Rattle.fx_build.specs.Fit.{ArgumentFits, FurtherFit, FurtherFits, InputsFit, IsMoment, each_fits, fits, inputs_at, inputs_fit, is_now, keeps_at, stream_fits, with_input}
 use Rattle.fx_build.specs.Safe.{IsSafe}
-use Rattle.fx_plan.specs.Said.{and_says, said_in}
+use Rattle.fx_plan.specs.Said.{said_in}
 use Rattle.fx_build.proofs.Callable.{NativeRuns}
 use Rattle.fx_build.proofs.KindLaws.{of_cell, of_text}
 use Rattle.fx_plan.proofs.SaidLaws.{kept_says, said_push}

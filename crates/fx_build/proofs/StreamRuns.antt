@@ -52,7 +52,7 @@ module _ (L : Line) (needs : GroundRow) (input : GroundField) (r : GroundRow) (t
       let same_input : k.1 ≡ input = cc in
       subst (λ i. HasInputs g (with_input L.pipe_label i needs)) same_input (subst (λ q. HasInputs g (with_input L.pipe_label k.1 q)) same_needs k.4)
 
-  has_inputs : (g : StreamFn) → MakesStream g L → HasInputs g (with_input L.pipe_label input needs)
+  pub has_inputs : (g : StreamFn) → MakesStream g L → HasInputs g (with_input L.pipe_label input needs)
   has_inputs s.Yield k = let clash : g_fun (parameters []) (g_is (g_stream k.0)) g_done ≡ g_fun needs input (g_stream r) = sym (ap (λ l. l.type) k.1) ∙ type in absurd cc
   has_inputs s.From k = moved s.From k
   has_inputs g k = moved g k

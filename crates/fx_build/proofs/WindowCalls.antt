@@ -1,5 +1,5 @@
 -- `window` of streams that fit is safe.
-use Rattle.std.proofs.Common.{◌≡◌, refl, sym, subst, Bool, true, false, ◌&&◌, List, [], ◌∷◌, ◌++◌, ℤ, pos, ◌+ℤ◌, Option, Some, None, arith}
+use Rattle.std.proofs.Common.{◌≡◌, refl, sym, subst, Bool, true, false, ◌&&◌, List, [], ◌∷◌, ℤ, pos, ◌+ℤ◌, Option, Some, None, arith}
 use Rattle.std.specs.Prelude.{codes, if◌then◌else◌, int_le, int_lt, IsTrue}
 use Rattle.std.specs.FinMap.{get, insert}
 use Rattle.std.specs.Int.{int_max, int_min}
@@ -11,7 +11,7 @@ use Rattle.fx_base.specs.declared.fault.FaultKind.TheVariants.{BadWindow}
 use Rattle.fx_base.specs.declared.place.Place.{Place}
 use Rattle.fx_time.specs.Windows.{last_started, last_stopped, window_start, window_stop}
 use Rattle.fx_time.specs.declared.span.Span.{Span}
-use Rattle.fx_value.specs.Ends.{End, Gives, Faults, and_then}
+use Rattle.fx_value.specs.Ends.{Gives, Faults, and_then}
 use Rattle.fx_value.specs.declared.scalar.Scalar.{Scalar}
 use Rattle.fx_value.specs.declared.scalar.Scalar.TheVariants as scalar
 use Rattle.fx_ops.specs.Whole.{in_64_bits}
@@ -28,7 +28,7 @@ use Rattle.fx_window.specs.Clip.{lowered, raised}
 use Rattle.fx_window.specs.Lengths.{are_lengths}
 use Rattle.fx_window.specs.Numbers.{numbers}
 use Rattle.fx_window.specs.Standing.{placed_by, placed_row, placed_rows, stand_by, stand_of, time_of}
-use Rattle.fx_window.specs.Window.{copies, copy_between, copy_in, windowed, windowed_table, windowed_tables}
+use Rattle.fx_window.specs.Window.{copies, copy_in, windowed, windowed_table, windowed_tables}
 use Rattle.fx_window.specs.Hidden.{Placed, Stand}
 use Rattle.fx_schemes.specs.Builtins.{IsLine}
 use Rattle.fx_schemes.specs.Line.{HasBounds, from_tables, parameters, put}

@@ -27,19 +27,21 @@ pub fn expressions_are_sound()
     ensures name { (env : Env) (x : Label) (e : Tree) (place : Place) (v : Val) → FitsAll env e v → FitsAll (assigned x e ∷ env) (tree place (name x)) v }
 {}
 
-/// A stream that fits, of the operators that have a meaning so far, is Stuck under no limit over
-/// any lawful stored points, and each row of its tables fits; so is its yield.
+/// A stream that fits is Stuck under no limit over any lawful stored points, and its tables fit; so
+/// is its yield. It is made of operators that make tables.
 pub fn streams_are_sound()
+    ensures listed { (call : Stream) (r : GroundRow) → stream_fits call (g_stream r) → all_listed call ≡ true }
     ensures tables { (test : Tests) (stored : Stored) (call : Stream) (r : GroundRow) (limit : ℕ) → AreLawful stored → all_listed call ≡ true → stream_fits call (g_stream r) → IsSafe (TablesFit r) (stream_meaning test stored call limit) }
     ensures shown { (test : Tests) (stored : Stored) (call : Stream) (r : GroundRow) (limit : ℕ) → AreLawful stored → all_listed call ≡ true → stream_fits call (g_stream r) → IsSafe (TablesFit r) (yield_meaning test stored call limit) }
 {}
 
 /// The run of a script with a typing is Stuck under no limit, in a setting with its patterns, where
 /// yields of streams that fit are safe. The value of each statement fits every type that the typing
-/// gives it, and the rows of each yield fit each row of types that its stream fits. Yields are safe
-/// over lawful stored points where each shows what its stream means, if all operators of the stream
-/// have a meaning so far, and else nothing (`listed`).
+/// gives it, and the tables of each yield fit each row of types that its stream fits. Yields are safe
+/// over lawful stored points where each shows what its stream means (`stored`), and so too where
+/// those alone do whose operators all make tables (`listed`), which are all.
 pub fn runs_are_sound()
     ensures run { (test : Tests) (setting : Setting) (tables : Stream → ℕ → End (List Table)) (ss : List StatementTree) (limit : ℕ) → HasTyping ss → IsSettingOf setting ss → ShowsSafely TablesFit tables → RunFits TablesFit ss [] (script_run test setting tables ss limit) }
     ensures listed { (test : Tests) (setting : Setting) (stored : Stored) (ss : List StatementTree) (limit : ℕ) → AreLawful stored → HasTyping ss → IsSettingOf setting ss → RunFits TablesFit ss [] (script_run test setting (listed_yield test stored) ss limit) }
+    ensures stored { (test : Tests) (setting : Setting) (stored : Stored) (ss : List StatementTree) (limit : ℕ) → AreLawful stored → HasTyping ss → IsSettingOf setting ss → RunFits TablesFit ss [] (script_run test setting (yield_meaning test stored) ss limit) }
 {}
