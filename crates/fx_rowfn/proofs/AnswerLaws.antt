@@ -1,7 +1,6 @@
 -- From the work of an expression to its meaning under a limit.
-use Rattle.std.proofs.Common.{◌≡◌, ℕ, ◌+◌, ◌≤◌, Bool, true, false, [], add-zero, sym, ap, subst, arith, ◌∙◌}
-use Rattle.std.specs.Prelude.{◌-◌, cond, nat_le, Err}
-use Rattle.std.proofs.lemmas.Bool.{le-leb}
+use Rattle.std.proofs.Common.{◌≡◌, ℕ, [], sym, ap, subst, arith, ◌∙◌}
+use Rattle.std.specs.Prelude.{◌-◌, Err}
 use Rattle.fx_ast.specs.Shape.{tree_of}
 use Rattle.fx_ast.specs.declared.expr.Expr.{Expr}
 use Rattle.fx_base.specs.declared.fault.Fault.{Fault}
@@ -11,7 +10,7 @@ use Rattle.fx_meaning.specs.Meaning.{Tests, meaning, means, nested}
 use Rattle.fx_meaning.specs.Value.{Val}
 use Rattle.fx_value.proofs.Ends.{then-gives}
 use Rattle.fx_value.specs.Calls.{Ended, Exceeded}
-use Rattle.fx_value.specs.Ends.{End, Gives, Faults, Stuck, More, NeverStuck, Stays, cut, later}
+use Rattle.fx_value.specs.Ends.{End, Gives, Faults, Stuck, IsLimited, NeverStuck, cut}
 use Rattle.fx_values.specs.Shape.{val}
 use Rattle.fx_values.specs.declared.stop.Stop.{Stop}
 use Rattle.fx_values.specs.declared.stop.Stop.TheVariants as stop
@@ -19,42 +18,7 @@ use Rattle.fx_rowfn.specs.Follows.{Follows, Goes, Passes}
 use Rattle.fx_rowfn.specs.State.{left, scope_of}
 use Rattle.fx_rowfn.specs.declared.frame.Control.TheVariants as control
 use Rattle.fx_rowfn.specs.declared.scope.Scope.{Scope}
-
-cut_gives : {A : Type 0} (limit ticks : ℕ) (v : A) → ticks ≤ limit → cut limit (later ticks (Gives v 0)) ≡ Gives v ticks
-cut_gives limit ticks v below =
-    ap (λ n. cut limit (Gives v n)) (add-zero ticks) ∙ ap (λ b. cond b (Gives v ticks) More) (le-leb ticks limit below)
-
-cut_faults : {A : Type 0} (limit ticks : ℕ) (f : Fault) → ticks ≤ limit → ◌≡◌ {A = End A} (cut limit (later ticks (Faults f 0))) (Faults f ticks)
-cut_faults {A} limit ticks f below =
-    ap (λ n. cut {A = A} limit (Faults f n)) (add-zero ticks) ∙ ap (λ b. cond {A = End A} b (Faults f ticks) More) (le-leb ticks limit below)
-
-least_gives : {A : Type 0} (limit least : ℕ) (e : End A) (v : A) (ticks : ℕ) → cut limit (later least e) ≡ Gives v ticks → least ≤ ticks
-least_gives {A} limit least (Gives w s) v ticks is = by (nat_le (least + s) limit) is
-  where
-    by : (b : Bool) → cond {A = End A} b (Gives w (least + s)) More ≡ Gives v ticks → least ≤ ticks
-    by true same = let sum : least + s ≡ ticks = cc in omega (arith, sum)
-    by false same = absurd cc
-least_gives {A} limit least (Faults f s) v ticks is = by (nat_le (least + s) limit) is
-  where
-    by : (b : Bool) → cond {A = End A} b (Faults f (least + s)) More ≡ Gives v ticks → least ≤ ticks
-    by true same = absurd cc
-    by false same = absurd cc
-least_gives limit least Stuck v ticks is = absurd cc
-least_gives limit least More v ticks is = absurd cc
-
-least_faults : {A : Type 0} (limit least : ℕ) (e : End A) (f : Fault) (ticks : ℕ) → cut limit (later least e) ≡ Faults f ticks → least ≤ ticks
-least_faults {A} limit least (Gives w s) f ticks is = by (nat_le (least + s) limit) is
-  where
-    by : (b : Bool) → cond {A = End A} b (Gives w (least + s)) More ≡ Faults f ticks → least ≤ ticks
-    by true same = absurd cc
-    by false same = absurd cc
-least_faults {A} limit least (Faults g s) f ticks is = by (nat_le (least + s) limit) is
-  where
-    by : (b : Bool) → cond {A = End A} b (Faults g (least + s)) More ≡ Faults f ticks → least ≤ ticks
-    by true same = let sum : least + s ≡ ticks = cc in omega (arith, sum)
-    by false same = absurd cc
-least_faults limit least Stuck f ticks is = absurd cc
-least_faults limit least More f ticks is = absurd cc
+use Rattle.fx_rowfn.proofs.CutLaws.{budget_cut, fault_cut, stuck_cut, value_cut}
 
 module _ (test : Tests) (scope : Scope) (e : Expr) (before after : Meter) where
   abbrev whole : ℕ → End Val
@@ -63,40 +27,26 @@ module _ (test : Tests) (scope : Scope) (e : Expr) (before after : Meter) where
   abbrev told : ℕ → End Val
   told limit = meaning test (scope_of scope).setting (tree_of e) (scope_of scope).env limit
 
-  whole_is : (limit : ℕ) → told limit ≡ cut limit (whole limit)
-  whole_is limit =
-      let all : limit - 0 ≡ limit = omega arith in
+  told_is : told ≡ (λ limit. cut limit (whole limit))
+  told_is = λ i limit.
+      (let all : limit - 0 ≡ limit = omega arith in
       ap (cut limit)
       (ap (λ n. means test (nested test n) (scope_of scope).setting (tree_of e) (scope_of scope).env) (sym all)
-      ∙ sym (then-gives (means test (nested test (limit - 0)) (scope_of scope).setting (tree_of e) (scope_of scope).env)))
+      ∙ sym (then-gives (means test (nested test (limit - 0)) (scope_of scope).setting (tree_of e) (scope_of scope).env)))) i
 
   pub value_answers : (v : Val) → Goes whole (λ _. Gives v 0) before after → Ended told (Gives v) before after
-  value_answers v g = record { ticks = g.ticks; spent = g.spent; at = λ limit below. whole_is limit ∙ ap (cut limit) (g.at limit below) ∙ cut_gives limit g.ticks v below }
+  value_answers v g = subst (λ t. Ended t (Gives v) before after) (sym told_is) (value_cut whole before after v g)
 
   pub fault_answers : (f : Fault) → Goes whole (λ _. Faults f 0) before after → Ended told (Faults f) before after
-  fault_answers f g = record { ticks = g.ticks; spent = g.spent; at = λ limit below. whole_is limit ∙ ap (cut limit) (g.at limit below) ∙ cut_faults {A = Val} limit g.ticks f below }
+  fault_answers f g = subst (λ t. Ended t (Faults f) before after) (sym told_is) (fault_cut whole before after f g)
 
   pub never_stuck : NeverStuck told → Goes whole (λ _. Stuck) before after → ⊥
-  never_stuck unstuck g = unstuck g.ticks (whole_is g.ticks ∙ ap (cut g.ticks) (g.at g.ticks (omega arith)))
+  never_stuck unstuck g = stuck_cut whole before after (subst NeverStuck told_is unstuck) g
 
   pub budget_answers : (sum : ℕ) → Passes whole before sum → Exceeded told before sum
-  budget_answers sum p = record {
-    past = p.past;
-    gives = λ limit v ticks is.
-        let most = p.ticks + ticks in
-        let tick = p.at most (omega arith) in
-        let stays : ticks ≤ most → told most ≡ Gives v ticks
-        = subst (λ d. Stays limit most d (told most)) is ((meaning_limited test (scope_of scope).setting (tree_of e) (scope_of scope).env).stays limit most) in
-        let least = least_gives most p.ticks tick.0 v ticks (ap (cut most) (sym tick.1) ∙ sym (whole_is most) ∙ stays (omega arith)) in
-        omega (arith, least, p.sum_is);
-    faults = λ limit f ticks is.
-        let most = p.ticks + ticks in
-        let tick = p.at most (omega arith) in
-        let stays : ticks ≤ most → told most ≡ Faults f ticks
-        = subst (λ d. Stays limit most d (told most)) is ((meaning_limited test (scope_of scope).setting (tree_of e) (scope_of scope).env).stays limit most) in
-        let least = least_faults most p.ticks tick.0 f ticks (ap (cut most) (sym tick.1) ∙ sym (whole_is most) ∙ stays (omega arith)) in
-        omega (arith, least, p.sum_is);
-  }
+  budget_answers sum p =
+      let limited = subst IsLimited told_is (meaning_limited test (scope_of scope).setting (tree_of e) (scope_of scope).env) in
+      subst (λ t. Exceeded t before sum) (sym told_is) (budget_cut whole before after limited sum p)
 
 -- the same of an expression that was copied
 module _ (test : Tests) (scope : Scope) (e d : Expr) (before after : Meter) (same : e ≡ d) where

@@ -3,7 +3,7 @@ use Rattle.std.proofs.Common.{◌≡◌, ℕ, List, subst, sym, ap, ◌∙◌}
 use Rattle.std.specs.Prelude.{Option, Result}
 use Rattle.fx_ast.proofs.ShapeLaws.{tree_is}
 use Rattle.fx_ast.specs.Shape.{shape_of, tree_of}
-use Rattle.fx_ast.specs.Tree.{Links, Parts, Props, Shape, Tree, Trees, array, chain, rec, text, tree}
+use Rattle.fx_ast.specs.Tree.{Links, Parts, Props, Shape, Tree, Trees, array, call, chain, pipe, rec, text, tree}
 use Rattle.fx_ast.specs.declared.expr.Expr.{Expr}
 use Rattle.fx_meaning.specs.Meaning.{Tests}
 use Rattle.fx_values.specs.declared.stop.Stop.{Stop}
@@ -26,3 +26,9 @@ all_props e base ps is = is ∙ ap (rec base) (sym (ap (λ t. props_from t 0) (t
 
 pub all_parts : (e : Expr) (ps : Parts) → shape_of e.node ≡ text ps → shape_of e.node ≡ text (parts_from (tree_of e) 0)
 all_parts e ps is = is ∙ ap text (sym (ap (λ t. parts_from t 0) (tree_is e) ∙ ap parts_in is))
+
+pub all_args : (e : Expr) (callee : Tree) (ps : Props) → shape_of e.node ≡ call callee ps → shape_of e.node ≡ call callee (props_from (tree_of e) 0)
+all_args e callee ps is = is ∙ ap (call callee) (sym (ap (λ t. props_from t 0) (tree_is e) ∙ ap props_in is))
+
+pub all_calls : (e : Expr) (first : Tree) (es : Trees) → shape_of e.node ≡ pipe first es → shape_of e.node ≡ pipe first (trees_from (tree_of e) 0)
+all_calls e first es is = is ∙ ap (pipe first) (sym (ap (λ t. trees_from t 0) (tree_is e) ∙ ap trees_in is))

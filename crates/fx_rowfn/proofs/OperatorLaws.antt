@@ -1,5 +1,5 @@
 -- Operators between operands, as a chain has them.
-use Rattle.std.proofs.Common.{◌≡◌, ℕ, List, ap, subst, sym, ◌∙◌}
+use Rattle.std.proofs.Common.{◌≡◌, ap, subst, sym, ◌∙◌}
 use Rattle.std.specs.Prelude.{Result}
 use Rattle.fx_ast.proofs.ShapeLaws.{link_is}
 use Rattle.fx_ast.specs.Shape.{link, tree_of}

@@ -4,7 +4,7 @@ use Rattle.std.specs.Prelude.{Result, Err}
 use Rattle.fx_base.specs.declared.fault.Fault.{Fault}
 use Rattle.fx_meaning.specs.Meaning.{Tests}
 use Rattle.fx_meaning.specs.Value.{Val}
-use Rattle.fx_value.specs.Ends.{End, Gives, Faults, Stuck}
+use Rattle.fx_value.specs.Ends.{End, Faults, Stuck}
 use Rattle.fx_values.specs.Told.{Tells}
 use Rattle.fx_values.specs.declared.stop.Stop.{Stop}
 use Rattle.fx_values.specs.declared.stop.Stop.TheVariants as stop

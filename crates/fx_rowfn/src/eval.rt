@@ -16,12 +16,14 @@ ghost use Rattle.fx_values.specs.Shape.{val};
 ghost use Rattle.fx_values.specs.Told.{Tells};
 
 use crate::arrays::arrayed;
+use crate::calls::called;
 use crate::frame::{Control, Frame, Next};
+use crate::functions::function;
 use crate::names::{named, patterned};
+use crate::pipes::piped;
 use crate::records::recorded;
 use crate::scope::Scope;
 use crate::texts::texted;
-use crate::unwritten::unwritten;
 use fx_ast::{Expr, Node, Prefix};
 use fx_base::{Memory, Place, Text};
 use fx_time::Span;
@@ -145,7 +147,9 @@ pub(crate) fn evaluated(alloc: Global, scope: Scope, expr: &Expr) -> Result<Next
         Node::Chain { first, .. } => chained(scope, expr, first),
         Node::Prefix { sign, of } => signed(scope, expr.place, *sign, of),
         Node::If { test, yes, no } => decision(scope, expr.place, test, yes, no),
-        _ => unwritten(),
+        Node::Fun { params, body } => function(alloc, &scope, expr.place, params, body),
+        Node::Call { callee, .. } => called(scope, expr, callee),
+        Node::Pipe { first, .. } => piped(scope, expr, first),
     }
 }
 

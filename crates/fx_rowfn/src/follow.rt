@@ -72,7 +72,7 @@ fn enter(
 }
 
 /// The scope in which a call begins: the captured values alone.
-fn called_in(alloc: Global, closure: &Closure) -> Result<Scope, Memory>
+pub(crate) fn called_in(alloc: Global, closure: &Closure) -> Result<Scope, Memory>
     ensures { IfOk result (λ s. scope_of s ≡ record { env = (closed closure.now).captured; setting = (closed closure.now).setting }) }
 {
     Ok(Scope {

@@ -9,14 +9,16 @@ ghost use Rattle.fx_values.specs.Known.{hears, numbers_of};
 ghost use Rattle.fx_values.specs.Shape.{val};
 
 use crate::arrays::item_known;
+use crate::calls::{arguments_from, callee_known, with_argument};
+use crate::enter::{assigned, bound};
 use crate::eval::{awaited, given};
 use crate::frame::{Control, Frame, Next};
 use crate::members::{item_of, member_of};
 use crate::operators::{linked, linked_on, operated};
+use crate::pipes::{Passed, calls_from, piped_callee_known, piped_from};
 use crate::records::field_known;
 use crate::scope::Scope;
 use crate::texts::hole_known;
-use crate::unwritten::unwritten;
 use fx_ast::Expr;
 use fx_base::{Patterns, Place};
 use fx_meaning::Placed;
@@ -72,7 +74,51 @@ pub(crate) fn resume<P: Patterns>(
             text,
             next,
         } => hole_known(alloc, scope, place, before, &text, next, &value),
-        _ => unwritten(),
+        Frame::Callee { scope, place, call } => callee_known(alloc, scope, place, &call, value),
+        Frame::Argument {
+            scope,
+            place,
+            called,
+            done,
+            label,
+            call,
+            next,
+        } => {
+            let done = with_argument(done, label, value)?;
+            arguments_from(alloc, scope, place, called, done, &call, next)
+        }
+        Frame::Through { scope, pipe, next } => calls_from(scope, &pipe, next, value),
+        Frame::PipedCallee {
+            scope,
+            place,
+            input,
+            call,
+        } => {
+            let of = Passed {
+                input,
+                callee: value,
+            };
+            piped_callee_known(alloc, scope, place, &call, of)
+        }
+        Frame::PipedArgument {
+            scope,
+            place,
+            input,
+            called,
+            done,
+            label,
+            call,
+            next,
+        } => {
+            let done = with_argument(done, label, value)?;
+            let of = Passed {
+                input,
+                callee: called,
+            };
+            piped_from(alloc, scope, place, of, done, &call, next)
+        }
+        Frame::Default { entry, label } => bound(alloc, entry, label, value),
+        Frame::Assigned { entry, label } => assigned(alloc, entry, label, value),
     }
 }
 

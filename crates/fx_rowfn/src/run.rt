@@ -66,7 +66,7 @@ fn advance<P: Patterns>(
             meter,
         ),
         Control::Bind(entry) => taken(alloc, bind(alloc, entry), frames, meter),
-        Control::Assign(entry) => taken(alloc, assign(alloc, entry), frames, meter),
+        Control::Assign(entry) => taken(alloc, assign(entry), frames, meter),
     }
 }
 

@@ -1,9 +1,13 @@
-ghost use Rattle.std.specs.Prelude.{◌≡◌, IfOk};
+ghost use Rattle.std.specs.Prelude.{◌≡◌, IfOk, map};
+ghost use Rattle.fx_rowfn.specs.Calls.{with_value};
 ghost use Rattle.fx_rowfn.specs.State.{scope_of};
+ghost use Rattle.fx_values.specs.Shape.{slot, val};
 
-use fx_base::{List, Memory};
+use crate::slots::{copied, slot_of};
+use fx_base::{List, Memory, Text};
 use fx_meaning::Setting;
-use fx_values::Slot;
+use fx_values::{Slot, Value};
+use std::alloc::Global;
 use std::rc::Rc;
 
 /// Where something is evaluated: the values of names, the inner ones behind, and the setting.
@@ -24,5 +28,32 @@ impl Scope {
             inner: self.inner.clone()?,
             setting: self.setting.clone()?,
         })
+    }
+
+    /// The scope with a value more behind. Values are copied only where others hold them too.
+    pub(crate) fn extended(self, alloc: Global, label: Text, value: Value) -> Result<Scope, Memory>
+        ensures { IfOk result (λ s. scope_of s ≡ with_value (scope_of self) label (val value)) }
+    {
+        let Scope {
+            outer,
+            inner,
+            setting,
+        } = self;
+        let mut values = owned(alloc, inner)?;
+        values.push(slot_of(label, value))?;
+        Ok(Scope {
+            outer,
+            inner: Rc::new(alloc, values)?,
+            setting,
+        })
+    }
+}
+
+fn owned(alloc: Global, slots: Rc<List<Slot>>) -> Result<List<Slot>, Memory>
+    ensures { IfOk result (λ own. map slot own ≡ map slot slots.value) }
+{
+    match Rc::try_unwrap(slots) {
+        Ok(own) => Ok(own),
+        Err(shared) => copied(alloc, shared.as_ref().as_slice()),
     }
 }

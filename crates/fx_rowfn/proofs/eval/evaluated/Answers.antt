@@ -1,13 +1,13 @@
 use Rattle.std.proofs.Common.{sym, ap, subst, ◌∙◌, map}
-use Rattle.fx_ast.proofs.ShapeLaws.{shape_array, shape_chain, shape_if, shape_index, shape_int, shape_member, shape_name, shape_paren, shape_pattern, shape_prefix, shape_rec, shape_span, shape_text, shape_time}
-use Rattle.fx_ast.specs.Shape.{link, links_of, part, parts_of, prop, props_of, shape_of, tree_of, trees_of}
-use Rattle.fx_ast.specs.Tree.{array, chain, if_then, index, int, member, name, paren, pattern, prefix, rec, span, text, time}
+use Rattle.fx_ast.proofs.ShapeLaws.{shape_array, shape_call, shape_chain, shape_fun, shape_if, shape_index, shape_int, shape_member, shape_name, shape_paren, shape_pattern, shape_pipe, shape_prefix, shape_rec, shape_span, shape_text, shape_time}
+use Rattle.fx_ast.specs.Shape.{body, link, links_of, param, params_of, part, parts_of, prop, props_of, shape_of, tree_of, trees_of}
+use Rattle.fx_ast.specs.Tree.{array, call, chain, fun, if_then, index, int, member, name, paren, pattern, pipe, prefix, rec, span, text, time}
 use Rattle.fx_value.specs.Ends.{and_then}
 use Rattle.fx_meaning.specs.Ends.{pure}
 use Rattle.fx_meaning.specs.Value as value
 use Rattle.fx_rowfn.specs.Frame.{unwound}
-use Rattle.fx_rowfn.specs.State.{Leads, links_from, parts_from, props_from, scope_of, tree_left, trees_from}
-use Rattle.fx_rowfn.proofs.NodeLaws.{all_items, all_parts, all_props, by_node, first_links}
+use Rattle.fx_rowfn.specs.State.{Leads, links_from, parts_from, props_from, scope_of, trees_from}
+use Rattle.fx_rowfn.proofs.NodeLaws.{all_args, all_calls, all_items, all_parts, all_props, by_node, first_links}
 use Rattle.fx_rowfn.proofs.eval.evaluated.Goals as goal
 
 pub returns-in-Int : goal.returns-in-Int
@@ -73,5 +73,17 @@ returns-in-Rec c =
     by_node c.args.expr.now (scope_of c.args.scope) (rec c.in-Rec.base (props_from (tree_of c.args.expr.now) 0)) c.recorded.result
     (all_props c.args.expr.now c.in-Rec.base (props_of (map prop c.in-Rec.props)) (ap shape_of (sym c.get.ensures ∙ c.in-Rec.is) ∙ shape_rec c.in-Rec.base c.in-Rec.props)) c.recorded.ensures
 
-pub returns-in_default : goal.returns-in_default
-returns-in_default c = λ test. c.unwritten.ensures (tree_left test (scope_of c.args.scope) (tree_of c.args.expr.now)) test
+pub returns-in-Fun : goal.returns-in-Fun
+returns-in-Fun c =
+    by_node c.args.expr.now (scope_of c.args.scope) (fun (params_of (map param c.in-Fun.params)) (body c.in-Fun.body).lets (body c.in-Fun.body).result) c.function.result
+    (ap shape_of (sym c.get.ensures ∙ c.in-Fun.is) ∙ shape_fun c.in-Fun.params c.in-Fun.body) c.function.ensures
+
+pub returns-in-Call : goal.returns-in-Call
+returns-in-Call c =
+    by_node c.args.expr.now (scope_of c.args.scope) (call (tree_of c.in-Call.callee) (props_from (tree_of c.args.expr.now) 0)) c.called.result
+    (all_args c.args.expr.now (tree_of c.in-Call.callee) (props_of (map prop c.in-Call.args)) (ap shape_of (sym c.get.ensures ∙ c.in-Call.is) ∙ shape_call c.in-Call.callee c.in-Call.args)) c.called.ensures
+
+pub returns-in-Pipe : goal.returns-in-Pipe
+returns-in-Pipe c =
+    by_node c.args.expr.now (scope_of c.args.scope) (pipe (tree_of c.in-Pipe.first) (trees_from (tree_of c.args.expr.now) 0)) c.piped.result
+    (all_calls c.args.expr.now (tree_of c.in-Pipe.first) (trees_of (map tree_of c.in-Pipe.calls)) (ap shape_of (sym c.get.ensures ∙ c.in-Pipe.is) ∙ shape_pipe c.in-Pipe.first c.in-Pipe.calls)) c.piped.ensures

@@ -1,6 +1,6 @@
 use Rattle.std.proofs.Common.{ap, sym, refl, ◌∙◌, map}
 use Rattle.fx_ast.proofs.ShapeLaws.{shape_text, tree_is}
-use Rattle.fx_ast.specs.Shape.{part, parts_of, shape_of, tree_of}
+use Rattle.fx_ast.specs.Shape.{part, parts_of, shape_of}
 use Rattle.fx_ast.specs.Tree.{text}
 use Rattle.fx_rowfn.specs.State.{parts_from, parts_in, parts_past}
 use Rattle.fx_rowfn.proofs.PartLaws.{parts_else, parts_found, parts_none_past}

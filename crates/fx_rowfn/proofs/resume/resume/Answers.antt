@@ -1,11 +1,12 @@
 use Rattle.std.proofs.Common.{subst, sym}
 use Rattle.fx_meaning.specs.Forms.{cell_in, items_in}
 use Rattle.fx_meaning.specs.Operators.{indexed, member_of, operate, prefixed}
-use Rattle.fx_value.proofs.Calls.{same_patterns_none}
 use Rattle.fx_value.specs.Ends.{and_then}
 use Rattle.fx_values.specs.Known.{hears}
 use Rattle.fx_values.specs.Shape.{val}
-use Rattle.fx_rowfn.specs.State.{Leads, frame_of, resumed_left}
+use Rattle.fx_ast.specs.Shape.{tree_of}
+use Rattle.fx_rowfn.specs.Calls.{args_left, piped_args_left}
+use Rattle.fx_rowfn.specs.State.{Leads, frame_of, props_from, resumed_left, scope_of}
 use Rattle.fx_rowfn.proofs.resume.resume.Goals as goal
 
 pub returns-in-Sign-clause-leads : goal.returns-in-Sign-clause-leads
@@ -66,10 +67,41 @@ returns-in-Hole-clause-leads g c =
     subst (λ f. Leads (resumed_left test (frame_of f) (val c.args.value)) test c.hole_known.result) (sym c.in-Hole.is)
     (c.hole_known.ensures test)
 
-pub returns : goal.returns
-returns g c =
+pub returns-in-Callee-clause-leads : goal.returns-in-Callee-clause-leads
+returns-in-Callee-clause-leads g c =
     let test = hears c.args.known.now (g.P.Patterns.test c.args.patterns.now) in
-    record {
-      leads = c.unwritten.ensures (resumed_left test (frame_of c.args.frame) (val c.args.value)) test;
-      patterns = same_patterns_none g.P.Patterns.built g.P.Patterns.refusals g.P.Patterns.test c.args.patterns.now;
-    }
+    subst (λ f. Leads (resumed_left test (frame_of f) (val c.args.value)) test c.callee_known.result) (sym c.in-Callee.is) (c.callee_known.ensures test)
+
+pub returns-in-Through-clause-leads : goal.returns-in-Through-clause-leads
+returns-in-Through-clause-leads g c =
+    let test = hears c.args.known.now (g.P.Patterns.test c.args.patterns.now) in
+    subst (λ f. Leads (resumed_left test (frame_of f) (val c.args.value)) test c.calls_from.result) (sym c.in-Through.is) (c.calls_from.ensures test)
+
+pub returns-in-PipedCallee-clause-leads : goal.returns-in-PipedCallee-clause-leads
+returns-in-PipedCallee-clause-leads g c =
+    let test = hears c.args.known.now (g.P.Patterns.test c.args.patterns.now) in
+    subst (λ f. Leads (resumed_left test (frame_of f) (val c.args.value)) test c.piped_callee_known.result) (sym c.in-PipedCallee.is) (c.piped_callee_known.ensures test)
+
+pub returns-in-Default-clause-leads : goal.returns-in-Default-clause-leads
+returns-in-Default-clause-leads g c =
+    let test = hears c.args.known.now (g.P.Patterns.test c.args.patterns.now) in
+    subst (λ f. Leads (resumed_left test (frame_of f) (val c.args.value)) test c.bound.result) (sym c.in-Default.is) (c.bound.ensures test)
+
+pub returns-in-Assigned-clause-leads : goal.returns-in-Assigned-clause-leads
+returns-in-Assigned-clause-leads g c =
+    let test = hears c.args.known.now (g.P.Patterns.test c.args.patterns.now) in
+    subst (λ f. Leads (resumed_left test (frame_of f) (val c.args.value)) test c.assigned.result) (sym c.in-Assigned.is) (c.assigned.ensures test)
+
+pub returns-in_ok-done-in-Argument-clause-leads : goal.returns-in_ok-done-in-Argument-clause-leads
+returns-in_ok-done-in-Argument-clause-leads g c =
+    let test = hears c.args.known.now (g.P.Patterns.test c.args.patterns.now) in
+    let a = c.in-Argument in
+    subst (λ f. Leads (resumed_left test (frame_of f) (val c.args.value)) test c.arguments_from.result) (sym a.is)
+    (subst (λ done. Leads (args_left test (scope_of a.scope) a.place (val a.called) (props_from (tree_of a.call) a.next) done) test c.arguments_from.result) c.in_ok-done-in-Argument.ensures (c.arguments_from.ensures test))
+
+pub returns-in_ok-done-in-PipedArgument-clause-leads : goal.returns-in_ok-done-in-PipedArgument-clause-leads
+returns-in_ok-done-in-PipedArgument-clause-leads g c =
+    let test = hears c.args.known.now (g.P.Patterns.test c.args.patterns.now) in
+    let a = c.in-PipedArgument in
+    subst (λ f. Leads (resumed_left test (frame_of f) (val c.args.value)) test c.piped_from.result) (sym a.is)
+    (subst (λ done. Leads (piped_args_left test (scope_of a.scope) a.place (val a.input) (val a.called) (props_from (tree_of a.call) a.next) done) test c.piped_from.result) c.in_ok-done-in-PipedArgument.ensures (c.piped_from.ensures test))

@@ -1,4 +1,4 @@
-use Rattle.std.proofs.Common.{ap, sym, ◌∙◌}
+use Rattle.std.proofs.Common.{sym, ◌∙◌}
 use Rattle.fx_values.proofs.ValueLaws.{slot_is}
 use Rattle.fx_rowfn.proofs.slots.slot_copied.Goals as goal
 

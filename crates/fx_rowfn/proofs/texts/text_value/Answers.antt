@@ -1,4 +1,4 @@
-use Rattle.std.proofs.Common.{◌≡◌, ◌≤◌, length, ap, arith, sym, ◌∙◌}
+use Rattle.std.proofs.Common.{◌≤◌, length, ap, arith, sym, ◌∙◌}
 use Rattle.std.proofs.lemmas.Bool.{le-leb}
 use Rattle.fx_value.specs.Ends.{Gives}
 use Rattle.fx_value.specs.declared.scalar.Scalar.TheVariants.{Text}
