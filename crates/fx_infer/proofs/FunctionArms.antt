@@ -1,8 +1,7 @@
 -- Inference of function literals from that of their parameters and of their blocks.
-use Rattle.std.proofs.Common.{◌≡◌, ◌↔◌, refl, sym, ap, subst, ◌∙◌, ℕ, ◌+◌, ◌≤◌, ◌<◌, max, Bool, true, false, List, [], ◌∷◌, ◌++◌, map, take, length, get_or, Option, None, Some, Result, Ok, Err, IfOk, arith}
+use Rattle.std.proofs.Common.{◌≡◌, ◌↔◌, refl, sym, ap, subst, ◌∙◌, ℕ, ◌+◌, ◌≤◌, ◌<◌, Bool, true, false, List, [], ◌∷◌, ◌++◌, map, take, length, get_or, Option, None, Some, Result, Ok, Err, IfOk, arith}
 use Rattle.std.proofs.lemmas.List.{map_more, take-map}
-use Rattle.fx_ast.specs.Lists.{param_list}
-use Rattle.fx_ast.specs.Shape.{OfParam, body, tree_of, param, params_of, prop, props_of, default_of}
+use Rattle.fx_ast.specs.Shape.{body, tree_of, param, params_of, prop, props_of, default_of}
 use Rattle.fx_ast.specs.Tree.{Tree, Props, fun, required, by_pipe, by_value}
 use Rattle.fx_ast.specs.declared.expr.Expr.{Expr}
 use Rattle.fx_ast.specs.declared.expr.Body.{Body}
@@ -26,16 +25,16 @@ use Rattle.fx_infer.specs.declared.functions.Block.{Block}
 use Rattle.fx_infer.specs.declared.scope.Name.{Name}
 use Rattle.fx_types.specs.Agree.{Agree}
 use Rattle.fx_infer.specs.Ask.{type_is, Scope}
-use Rattle.fx_infer.specs.Environment.{Env, scope, params_env}
+use Rattle.fx_infer.specs.Environment.{scope}
 use Rattle.fx_infer.specs.Finds.{Finds}
 use Rattle.fx_infer.specs.Functions.{Inside, are_declared, grown, Grows, start, inside, ParamOf, DefaultOf, BlockIn}
 use Rattle.fx_infer.specs.Infers.{Infers, Asks, HasNone, IsBelow}
 use Rattle.fx_infer.specs.Names.{env_under, NamesBelow, TypeOf, ShapeOf}
-use Rattle.fx_infer.specs.Parameters.{AreDeclared, with_params}
+use Rattle.fx_infer.specs.Parameters.{AreDeclared}
 use Rattle.fx_infer.specs.Typing.{has, has_lets, has_params, has_default}
 use Rattle.fx_infer.proofs.DeclaredLaws.{declared, not_declared}
 use Rattle.fx_infer.proofs.FunctionLaws.{after, names_in, params_grow, grows_params, grows_more, grows_part}
-use Rattle.fx_infer.proofs.InfersLaws.{Reads, asked, both, none_second, same, seen_as}
+use Rattle.fx_infer.proofs.InfersLaws.{Reads, asked, both, none_second, seen_as}
 use Rattle.fx_infer.proofs.LetArms.{LetsOf, AreBehind, block_found, lets_all, no_let, no_result}
 use Rattle.fx_infer.proofs.MoreArms.{typed_asked}
 use Rattle.fx_infer.proofs.TypingLaws.{params_scope}

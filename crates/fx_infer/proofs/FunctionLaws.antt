@@ -12,7 +12,7 @@ use Rattle.fx_types.proofs.RowSums.{same_is, same_itself}
 use Rattle.fx_schemes.specs.Builtins.{differ}
 use Rattle.fx_infer.specs.Ask.{Scope}
 use Rattle.fx_infer.specs.Environment.{params_env}
-use Rattle.fx_infer.specs.Functions.{Inside, or_field, needs_with, input_with, grown, Grows}
+use Rattle.fx_infer.specs.Functions.{Inside, or_field, grown, Grows}
 use Rattle.fx_infer.specs.Parameters.{is_required, piped, first, field_if, input_of}
 use Rattle.fx_infer.specs.Typing.{has_params, has_default}
 

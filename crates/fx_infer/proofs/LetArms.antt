@@ -7,8 +7,7 @@ use Rattle.fx_ast.specs.declared.expr.Expr.{Expr}
 use Rattle.fx_ast.specs.declared.expr.Prop.{Prop}
 use Rattle.fx_ast.proofs.ShapeLaws.{prop_is}
 use Rattle.fx_types.specs.Ground.{Ground}
-use Rattle.fx_types.specs.Instance.{Solution, ground}
-use Rattle.fx_types.specs.Term.{Label}
+use Rattle.fx_types.specs.Instance.{Solution}
 use Rattle.fx_types.proofs.Lists.{take_all}
 use Rattle.fx_unify.specs.declared.bindings.Bindings.{Bindings}
 use Rattle.fx_unify.specs.Solutions.{next_of}

@@ -7,7 +7,7 @@ use Rattle.fx_types.specs.Shape.{term, pipe_of}
 use Rattle.fx_types.specs.Size.{IsType}
 use Rattle.fx_types.specs.Term.{Label}
 use Rattle.fx_ast.specs.Shape.{OfParam, default_of, param}
-use Rattle.fx_ast.specs.Tree.{Tree, Props, Default, required, by_pipe, by_value}
+use Rattle.fx_ast.specs.Tree.{Tree, Props, Default, required, by_pipe}
 use Rattle.fx_ast.specs.declared.expr.Param as params
 use Rattle.fx_ast.specs.declared.expr.ParamKind as kinds
 use Rattle.fx_ast.specs.declared.expr.Prop as props

@@ -47,8 +47,8 @@ use Rattle.fx_infer.proofs.WrittenLaws.{at_shape, no_call}
 use Rattle.fx_ast.specs.declared.expr.Node.TheViews.{out-Body}
 use Rattle.fx_infer.specs.Functions.{BlockIn, DefaultOf, FindsBlock, ParamOf, inside}
 use Rattle.fx_infer.proofs.BlockLaws.{is_required, is_piped, one_name}
-use Rattle.fx_infer.proofs.FunctionArms.{block_declared, block_ends, block_stops, block_undeclared, default_found, function_found, no_block, no_default, no_default_needed, no_default_value, no_param, no_params, param_found, params_all, params_grow_on, params_start, piped_default, required_default, undeclared}
-use Rattle.fx_infer.proofs.LetArms.{behind_below, behind_grow, lets_grow, lets_start}
+use Rattle.fx_infer.proofs.FunctionArms.{block_declared, block_ends, block_stops, block_undeclared, default_found, function_found, no_block, no_default, no_default_needed, no_default_value, no_param, no_params, param_found, params_all, params_grow_on, piped_default, required_default, undeclared}
+use Rattle.fx_infer.proofs.LetArms.{behind_grow, lets_grow}
 use Rattle.fx_infer.proofs.infer.+infer.Goals as goal
 
 pub infer-returns-in-Int : goal.infer-returns-in-Int
