@@ -4,6 +4,7 @@ pub mod Callees
 pub mod Calls
 pub mod Environment
 pub mod Finds
+pub mod Functions
 pub mod Infers
 pub mod Lists
 pub mod Members

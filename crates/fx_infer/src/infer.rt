@@ -2,18 +2,21 @@
 //! in the scope of the names before it; each step down takes one from `room`.
 
 ghost use Rattle.std.specs.Prelude.{IfOk, map, ◌≡◌, true, Option, option_map};
-ghost use Rattle.fx_ast.specs.Shape.{tree_of, trees_of, link, links_of, part, parts_of, prop, props_of};
-ghost use Rattle.fx_ast.specs.Tree.{name, text, array, rec, member, chain, prefix, index, if_then, call, pipe};
+ghost use Rattle.fx_ast.specs.Shape.{body, default_of, tree_of, trees_of, link, links_of, param, params_of, part, parts_of, prop, props_of};
+ghost use Rattle.fx_ast.specs.Tree.{name, text, array, rec, fun, member, chain, prefix, index, if_then, call, pipe};
 ghost use Rattle.fx_schemes.specs.declared.list.Builtin.{Builtin};
 ghost use Rattle.fx_schemes.specs.Builtins.{differ};
 ghost use Rattle.fx_schemes.specs.Names.{IsId};
-ghost use Rattle.fx_types.specs.Instance.{ground};
+ghost use Rattle.fx_types.specs.Agree.{Agree};
+ghost use Rattle.fx_types.specs.Instance.{Solution, ground};
 ghost use Rattle.fx_types.specs.Shape.{term, pipe_of};
+ghost use Rattle.fx_types.specs.Term.{type_variable};
 ghost use Rattle.fx_unify.specs.Solutions.{next_of};
 ghost use Rattle.fx_infer.specs.Callees.{ArgOf, FindsArg, FindsArgs, IsIdOf, CallOf, NativeCallOf, ValueCallOf, PipedOf, PipeBelow};
 ghost use Rattle.fx_infer.specs.Infers.{IsBelow};
 ghost use Rattle.fx_infer.specs.Finds.{Finds, FindsThat};
-ghost use Rattle.fx_infer.specs.Names.{NamesBelow, TypeOf, ShapeOf, LinkOf};
+ghost use Rattle.fx_infer.specs.Functions.{BlockIn, DefaultOf, FindsBlock, ParamOf, inside};
+ghost use Rattle.fx_infer.specs.Names.{NamesBelow, env_under, TypeOf, ShapeOf, LinkOf};
 ghost use Rattle.fx_infer.specs.Parameters.{prop_names};
 ghost use Rattle.fx_infer.specs.Records.{BaseOf, MakesOf, FindsRow, FindsFields};
 ghost use Rattle.fx_infer.specs.Texts.{PartOf};
@@ -22,6 +25,7 @@ use crate::arguments::{Argument, Arguments, argument_of, form_at, once, said, wi
 use crate::ask::{Inferred, among, any_array, equal};
 use crate::callee::{Callee, callee_of};
 use crate::calls::called;
+use crate::functions::{Scoped, any_variable, are_declared, declare, function_type, outermost};
 use crate::labels::labels_differ;
 use crate::literals::{int_type, pattern_type, span_type, text_type, time_type};
 use crate::members::package;
@@ -34,7 +38,7 @@ use crate::stop::Stop;
 use crate::terms::{array_of, entry};
 use crate::uses::line_at;
 use crate::words::words_of_call;
-use fx_ast::{Expr, Link, Node, Part, Prefix, Prop};
+use fx_ast::{Body, Expr, Link, Node, Param, ParamKind, Part, Prefix, Prop};
 use fx_base::{List, Text};
 use fx_schemes::BuiltinId;
 use fx_types::Ty;
@@ -83,7 +87,9 @@ pub(crate) fn infer<'a>(
         Node::Pipe { first, calls } => {
             infer_pipe(alloc, names, bindings, first, calls.as_slice(), room)
         }
-        _ => Err(Stop::NotYet),
+        Node::Fun { params, body } => {
+            infer_function(alloc, names, bindings, params.as_slice(), body, room)
+        }
     }
 }
 
@@ -330,6 +336,118 @@ fn infer_fields<'a>(
         bindings: asked,
         fields,
     }))
+}
+
+/// A type of a function of the parameters with the block.
+#[cycle(infer)]
+fn infer_function<'a>(
+    alloc: Global,
+    names: &[Name<'a>],
+    bindings: Bindings,
+    params: &'a [Param],
+    block: &'a Body,
+    room: u32,
+) -> Result<Option<Inferred>, Stop>
+    requires { NamesBelow (next_of bindings) names.now }
+    ensures { IfOk result (Finds (ShapeOf names.now (fun (params_of (map param params.now)) (body block.now).lets (body block.now).result)) bindings) }
+{
+    if !are_declared(params, block.lets.as_slice()) {
+        return Ok(None);
+    }
+    let mut scoped = Scoped {
+        bindings,
+        block: outermost(alloc, names)?,
+    };
+    for next in params {
+        scoped = match infer_param(alloc, names, scoped, next, room)? {
+            Some(scoped) => scoped,
+            None => return Ok(None),
+        };
+    }
+    let inner = scoped.block;
+    match infer_block(alloc, inner.names, scoped.bindings, block, room)? {
+        Some(found) => {
+            let made = function_type(alloc, found.bindings, inner.required, inner.pipe, found.ty)?;
+            Ok(Some(made))
+        }
+        None => Ok(None),
+    }
+}
+
+/// The block with one parameter more.
+#[cycle(infer)]
+fn infer_param<'a>(
+    alloc: Global,
+    names: &[Name<'a>],
+    scoped: Scoped<'a>,
+    next: &'a Param,
+    room: u32,
+) -> Result<Option<Scoped<'a>>, Stop>
+    requires names { NamesBelow (next_of scoped.bindings) names.now }
+    requires block { (s q : Solution) → Agree (next_of scoped.bindings) s q → inside s scoped.block ≡ inside q scoped.block }
+    ensures { IfOk result (FindsBlock (ParamOf names.now next.now scoped.entry.block) scoped.entry.bindings) }
+{
+    let fresh = any_variable(alloc, scoped.bindings)?;
+    let number = fresh.number;
+    match infer_default(alloc, names, fresh.bindings, &next.default, number, room)? {
+        Some(bindings) => {
+            let block = declare(scoped.block, next, number)?;
+            Ok(Some(Scoped { bindings, block }))
+        }
+        None => Ok(None),
+    }
+}
+
+/// Bindings under which the default has the type of the variable.
+#[cycle(infer)]
+fn infer_default<'a>(
+    alloc: Global,
+    names: &[Name<'a>],
+    bindings: Bindings,
+    default: &'a ParamKind,
+    number: u32,
+    room: u32,
+) -> Result<Option<Bindings>, Stop>
+    requires names { NamesBelow (next_of bindings) names.now }
+    requires number { IsBelow (next_of bindings) (type_variable number) }
+    ensures { IfOk result (FindsThat (λ s. DefaultOf names.now default.now s (s.type_of number)) bindings) }
+{
+    let value = match default {
+        ParamKind::Value(value) => value,
+        ParamKind::Required => return Ok(Some(bindings)),
+        ParamKind::Pipe => return Ok(Some(bindings)),
+    };
+    match infer(alloc, names, bindings, value, room)? {
+        Some(found) => Ok(Some(equal(alloc, found.bindings, &found.ty, &Ty::Var(number))?)),
+        None => Ok(None),
+    }
+}
+
+/// A type of what the block returns, where each of its assignments has one.
+#[cycle(infer)]
+fn infer_block<'a>(
+    alloc: Global,
+    names: List<Name<'a>>,
+    bindings: Bindings,
+    block: &'a Body,
+    room: u32,
+) -> Result<Option<Inferred>, Stop>
+    requires { NamesBelow (next_of bindings) names }
+    ensures { IfOk result (Finds (λ s t. BlockIn (body block.now).lets (body block.now).result (env_under s names.entry) t) bindings) }
+{
+    let mut asked = bindings;
+    let mut inner = names;
+    for next in block.lets.as_slice() {
+        let found = match infer(alloc, inner.as_slice(), asked, &next.value, room)? {
+            Some(found) => found,
+            None => return Ok(None),
+        };
+        asked = found.bindings;
+        let label = &next.label;
+        let bound = Bound::Assigned(&next.value);
+        inner.push(Name { label, bound })?;
+    }
+    infer(alloc, inner.as_slice(), asked, &block.result, room)
 }
 
 /// A type of a text of the parts.

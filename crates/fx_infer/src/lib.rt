@@ -5,6 +5,7 @@ mod arguments;
 mod ask;
 mod callee;
 mod calls;
+mod functions;
 mod infer;
 mod kept;
 mod labels;

@@ -1,10 +1,10 @@
-use Rattle.std.proofs.Common.{FitsSigned, IfOk, None, Some, ap, arith, map, rules, subst, sym, take, ◌∙◌, ◌≡◌, ◌+◌}
+use Rattle.std.proofs.Common.{FitsSigned, IfOk, None, Some, refl, ap, arith, map, rules, subst, sym, take, ◌∙◌, ◌≡◌, ◌+◌}
 use Rattle.std.specs.Option.{option_copied}
 use Rattle.std.specs.Int.{w64}
 use Rattle.std.proofs.lemmas.Int.{to_z-of_z}
-use Rattle.fx_ast.specs.Shape.{link, links_of, part, parts_of, prop, props_of, shape_of, tree_of, trees_of}
-use Rattle.fx_ast.specs.Tree.{array, chain, if_then, index, int, member, name, paren, pattern, prefix, rec, span, text, time, call, pipe, tree}
-use Rattle.fx_ast.proofs.ShapeLaws.{part_hole, part_piece, shape_array, shape_chain, shape_if, shape_index, shape_int, shape_member, shape_name, shape_paren, shape_pattern, shape_prefix, shape_rec, shape_span, shape_text, shape_time, shape_call, shape_pipe}
+use Rattle.fx_ast.specs.Shape.{body, default_of, param, params_of, link, links_of, part, parts_of, prop, props_of, shape_of, tree_of, trees_of}
+use Rattle.fx_ast.specs.Tree.{array, fun, chain, if_then, index, int, member, name, paren, pattern, prefix, rec, span, text, time, call, pipe, tree}
+use Rattle.fx_ast.proofs.ShapeLaws.{default_value, shape_fun, part_hole, part_piece, shape_array, shape_chain, shape_if, shape_index, shape_int, shape_member, shape_name, shape_paren, shape_pattern, shape_prefix, shape_rec, shape_span, shape_text, shape_time, shape_call, shape_pipe}
 use Rattle.fx_schemes.specs.Names.{builtin_of}
 use Rattle.fx_types.specs.Ground.{g_rec, g_is}
 use Rattle.fx_types.specs.Instance.{ground, ground_fields, ground_tail, ground_labels, ground_pipe}
@@ -12,7 +12,7 @@ use Rattle.fx_types.specs.Shape.{term, entry_term, fields_of, rest_term, pipe_of
 use Rattle.std.specs.Prelude.{option_map}
 use Rattle.fx_types.specs.Term.{no_pipe}
 use Rattle.fx_infer.specs.Finds.{Finds, FindsThat, FindsLine, line_under}
-use Rattle.fx_infer.specs.Infers.{Infers, AreBelow}
+use Rattle.fx_infer.specs.Infers.{Infers, HasNone, AreBelow}
 use Rattle.fx_infer.specs.Environment.{scope}
 use Rattle.fx_infer.specs.Names.{TypeOf, ShapeOf, env_under, IsNewest, LinkOf}
 use Rattle.fx_infer.specs.Operators.{Prefixed}
@@ -25,7 +25,7 @@ use Rattle.fx_infer.proofs.RecordArms.{record_is, no_record, base_is, makes_read
 use Rattle.fx_infer.proofs.TextArms.{hole_found, no_hole, piece_found, text_grow, no_part, text_found}
 use Rattle.fx_infer.proofs.TypingLaws.{typed_type}
 use Rattle.fx_types.specs.declared.term.Ty.TheVariants as ty
-use Rattle.fx_types.proofs.ShapeLaws.{term_bool}
+use Rattle.fx_types.proofs.ShapeLaws.{term_bool, term_variable}
 use Rattle.fx_infer.proofs.MoreArms.{typed_asked, if_found, no_test, no_branch, no_other, if_is, no_item, items_grow, items_all, array_found, no_array, at_later, below_more}
 use Rattle.fx_infer.proofs.ScopeLaws.{names_below}
 use Rattle.fx_types.specs.Size.{IsType}
@@ -44,6 +44,11 @@ use Rattle.fx_infer.proofs.ArgLaws.{args_start, args_more, args_all, no_arg, new
 use Rattle.fx_infer.proofs.CallingLaws.{not_once, as_value, as_native, value_found, value_none, value_args_none, native_wordless, native_no_line, native_args_none, native_found, lines_apart, line_below, optional_below, given_below, term_below, plain_call, piped_call}
 use Rattle.fx_infer.proofs.PipeArms.{pipes_start, no_input, pipes_grow, no_piped, pipes_found}
 use Rattle.fx_infer.proofs.WrittenLaws.{at_shape, no_call}
+use Rattle.fx_ast.specs.declared.expr.Node.TheViews.{out-Body}
+use Rattle.fx_infer.specs.Functions.{BlockIn, DefaultOf, FindsBlock, ParamOf, inside}
+use Rattle.fx_infer.proofs.BlockLaws.{is_required, is_piped, one_name}
+use Rattle.fx_infer.proofs.FunctionArms.{block_declared, block_ends, block_stops, block_undeclared, default_found, function_found, no_block, no_default, no_default_needed, no_default_value, no_param, no_params, param_found, params_all, params_grow_on, piped_default, required_default, undeclared}
+use Rattle.fx_infer.proofs.LetArms.{behind_grow, lets_grow}
 use Rattle.fx_infer.proofs.infer.+infer.Goals as goal
 
 pub infer-returns-in-Int : goal.infer-returns-in-Int
@@ -574,3 +579,98 @@ pub infer_arg-returns-in-None-2 : goal.infer_arg-returns-in-None-2
 infer_arg-returns-in-None-2 t c b is =
     no_typed_arg b c.args.names.now c.args.arg.now c.args.bindings (sym (c.form_at.ensures b is) ∙ c.in-None.is)
     (subst (Finds (TypeOf c.args.names.now c.args.arg.now.value) c.args.bindings) c.in-None-2.is c.in_ok-found-in-None.ensures)
+
+-- function literals
+
+pub infer-returns-in-Fun : goal.infer-returns-in-Fun
+infer-returns-in-Fun t c =
+    subst (λ T. IfOk c.infer_function.result (Finds T c.args.bindings))
+    (ap (λ ps. ShapeOf c.args.names.now (fun (params_of (map param ps)) (body c.in-Fun.body).lets (body c.in-Fun.body).result)) c.as_slice-in-Fun.ensures
+    ∙ at_node c.args.names.now c.args.expr.now c.get.result.now (fun (params_of (map param c.in-Fun.params)) (body c.in-Fun.body).lets (body c.in-Fun.body).result) c.get.ensures (ap shape_of c.in-Fun.is ∙ shape_fun c.in-Fun.params c.in-Fun.body)) c.infer_function.ensures
+
+pub infer_function-returns-then-not-are_declared : goal.infer_function-returns-then-not-are_declared
+infer_function-returns-then-not-are_declared t c =
+    undeclared c.args.names.now c.args.params.now (body c.args.block.now).lets (body c.args.block.now).result c.args.bindings
+    (block_undeclared c.args.params.now c.args.block.now c.as_slice.result.now c.as_slice.ensures c.are_declared.result c.are_declared.ensures c.if-not-are_declared.true)
+
+pub infer_function-infer_param-requires : goal.infer_function-infer_param-requires
+infer_function-infer_param-requires t c = (omega arith, (names_below _ _ c.args.names.now c.loop-next.invariant.more c.requires, c.loop-next.invariant.below))
+
+pub infer_function-returns-in-None : goal.infer_function-returns-in-None
+infer_function-returns-in-None t c =
+    no_params c.args.names.now c.args.params.now (body c.args.block.now).lets (body c.args.block.now).result c.args.bindings (block_declared c.args.params.now c.args.block.now c.as_slice.result.now c.as_slice.ensures c.are_declared.result c.are_declared.ensures c.if-not-are_declared.false)
+    (no_param c.args.names.now c.args.params.now c.args.bindings c.requires c.loop-next.scoped.bindings c.loop-next.scoped.block c.loop-next.next-index c.next-item.result c.loop-next-test.true c.next-item.is c.loop-next.invariant
+    (subst (FindsBlock (ParamOf c.args.names.now c.next-item.result c.loop-next.scoped.block) c.loop-next.scoped.bindings) c.in-None.is c.in_ok-scoped.ensures))
+
+pub infer_function-loop-next-preserved : goal.infer_function-loop-next-preserved
+infer_function-loop-next-preserved t c =
+    params_grow_on c.args.names.now c.args.params.now c.args.bindings c.requires c.loop-next.scoped.bindings c.loop-next.scoped.block c.loop-next.next-index c.next-item.result c.loop-next-test.true c.next-item.is c.loop-next.invariant c.in-Some.scoped.bindings c.in-Some.scoped.block
+    (subst (FindsBlock (ParamOf c.args.names.now c.next-item.result c.loop-next.scoped.block) c.loop-next.scoped.bindings) c.in-Some.is c.in_ok-scoped.ensures)
+
+pub infer_function-infer_block-requires : goal.infer_function-infer_block-requires
+infer_function-infer_block-requires t c = (omega arith, λ s q agree. ap (λ b. b.0) (c.loop-next.invariant.below s q agree))
+
+pub infer_param-infer_default-requires : goal.infer_param-infer_default-requires
+infer_param-infer_default-requires t c = (omega arith, (names_below _ _ c.args.names.now c.in_ok-fresh.ensures.more c.requires.names, c.in_ok-fresh.ensures.below))
+
+pub infer_param-returns-in-Some : goal.infer_param-returns-in-Some
+infer_param-returns-in-Some t c =
+    param_found c.args.names.now c.args.next.now c.args.scoped.block c.args.scoped.bindings c.requires.names c.requires.block c.in_ok-fresh.fresh.bindings c.in-Some.bindings c.in_ok-fresh.fresh.number c.in_ok-block-in-Some.block c.in_ok-fresh.ensures
+    (subst (FindsThat (λ s. DefaultOf c.args.names.now c.args.next.now.default s (s.type_of c.in_ok-fresh.fresh.number)) c.in_ok-fresh.fresh.bindings) c.in-Some.is c.in_ok-bindings.ensures) c.in_ok-block-in-Some.ensures
+
+pub infer_param-returns : goal.infer_param-returns
+infer_param-returns t c =
+    no_default c.args.names.now c.args.next.now c.args.scoped.block c.args.scoped.bindings c.requires.names c.requires.block c.in_ok-fresh.fresh.bindings c.in_ok-fresh.fresh.number c.in_ok-fresh.ensures
+    (subst (FindsThat (λ s. DefaultOf c.args.names.now c.args.next.now.default s (s.type_of c.in_ok-fresh.fresh.number)) c.in_ok-fresh.fresh.bindings) c.in-None.is c.in_ok-bindings.ensures)
+
+pub infer_default-returns-in-Required : goal.infer_default-returns-in-Required
+infer_default-returns-in-Required t c =
+    no_default_needed c.args.names.now c.args.default.now c.args.number c.args.bindings (required_default c.args.names.now c.args.default.now c.args.number (is_required c.args.default.now c.in-Required.is))
+
+pub infer_default-returns-in-Pipe : goal.infer_default-returns-in-Pipe
+infer_default-returns-in-Pipe t c =
+    no_default_needed c.args.names.now c.args.default.now c.args.number c.args.bindings (piped_default c.args.names.now c.args.default.now c.args.number (is_piped c.args.default.now c.in-Pipe.is))
+
+pub infer_default-returns-in_ok-equal-in-Some : goal.infer_default-returns-in_ok-equal-in-Some
+infer_default-returns-in_ok-equal-in-Some t c =
+    default_found c.args.names.now c.args.default.now c.in-Value.value c.args.number (ap default_of c.in-Value.is ∙ default_value c.in-Value.value) c.args.bindings c.in-Some.found.bindings c.in_ok-equal-in-Some.field-0 (λ s. ground s (term c.in-Some.found.ty)) (term (ty.Var c.args.number))
+    (λ s. ap (ground s) (term_variable c.args.number)) c.requires.number (subst (Finds (TypeOf c.args.names.now c.in-Value.value) c.args.bindings) c.in-Some.is c.in_ok-found.ensures) c.in_ok-equal-in-Some.ensures
+
+pub infer_default-returns-in-None : goal.infer_default-returns-in-None
+infer_default-returns-in-None t c =
+    no_default_value c.args.names.now c.args.default.now c.in-Value.value c.args.number (ap default_of c.in-Value.is ∙ default_value c.in-Value.value) c.args.bindings (subst (Finds (TypeOf c.args.names.now c.in-Value.value) c.args.bindings) c.in-None.is c.in_ok-found.ensures)
+
+pub infer_block-returns-in-None : goal.infer_block-returns-in-None
+infer_block-returns-in-None t c =
+    block_stops c.args.block.now c.as_slice-next-items.result.now (out-Body c.args.block.now).result c.as_slice-next-items.ensures refl c.args.names c.args.bindings c.requires c.loop-next.asked c.loop-next.inner c.loop-next.next-index c.next-item.result c.loop-next-test.true c.next-item.is c.loop-next.invariant
+    (subst (λ ms. HasNone (TypeOf ms c.next-item.result.value) c.loop-next.asked) c.as_slice.ensures (subst (Finds (TypeOf c.as_slice.result.now c.next-item.result.value) c.loop-next.asked) c.in-None.is c.in_ok-found.ensures))
+
+pub infer_block-loop-next-preserved : goal.infer_block-loop-next-preserved
+infer_block-loop-next-preserved t c = (
+  lets_grow c.args.names c.as_slice-next-items.result.now c.args.bindings c.requires c.loop-next.asked c.loop-next.inner c.loop-next.next-index c.next-item.result c.loop-next-test.true c.next-item.is c.loop-next.invariant.0 c.loop-next.invariant.1
+      c.in-Some.found.bindings (λ s. ground s (term c.in-Some.found.ty))
+      (subst (λ ms. Infers (TypeOf ms c.next-item.result.value) c.loop-next.asked c.in-Some.found.bindings (λ s. ground s (term c.in-Some.found.ty))) c.as_slice.ensures
+      (subst (Finds (TypeOf c.as_slice.result.now c.next-item.result.value) c.loop-next.asked) c.in-Some.is c.in_ok-found.ensures)),
+  behind_grow c.args.names c.as_slice-next-items.result.now c.args.bindings c.requires c.loop-next.asked c.loop-next.inner c.loop-next.next-index c.next-item.result c.loop-next-test.true c.next-item.is c.loop-next.invariant.0 c.loop-next.invariant.1
+      c.push.new.self (λ s. one_name s c.loop-next.inner c.push.new.self _ c.in_ok-push.ensures.ok),
+)
+
+pub infer_block-returns : goal.infer_block-returns
+infer_block-returns t c =
+    block_ends c.args.block.now c.as_slice-next-items.result.now (out-Body c.args.block.now).result c.as_slice-next-items.ensures refl c.args.names c.args.bindings c.requires c.loop-next.asked c.loop-next.inner c.loop-next.next-index c.loop-next-test.false c.loop-next.invariant c.infer-2.result
+    (subst (λ ms. IfOk c.infer-2.result (Finds (TypeOf ms (out-Body c.args.block.now).result) c.loop-next.asked)) c.as_slice-2.ensures c.infer-2.ensures)
+
+pub infer_function-returns-in-None-2 : goal.infer_function-returns-in-None-2
+infer_function-returns-in-None-2 t c =
+    no_block c.args.names.now c.args.params.now (body c.args.block.now).lets (body c.args.block.now).result c.args.bindings (block_declared c.args.params.now c.args.block.now c.as_slice.result.now c.as_slice.ensures c.are_declared.result c.are_declared.ensures c.if-not-are_declared.false)
+    c.loop-next.scoped.bindings c.loop-next.scoped.block
+    (params_all c.args.names.now c.args.params.now c.args.bindings c.requires c.loop-next.scoped.bindings (λ s. inside s c.loop-next.scoped.block) c.loop-next.next-index c.loop-next-test.false c.loop-next.invariant)
+    (subst (Finds (λ s u. BlockIn (body c.args.block.now).lets (body c.args.block.now).result (env_under s c.loop-next.scoped.block.names) u) c.loop-next.scoped.bindings) c.in-None-2.is c.in_ok-found.ensures)
+
+pub infer_function-returns-in_ok-made-in-Some-2 : goal.infer_function-returns-in_ok-made-in-Some-2
+infer_function-returns-in_ok-made-in-Some-2 t c =
+    function_found c.args.names.now c.args.params.now (body c.args.block.now).lets (body c.args.block.now).result c.args.bindings (block_declared c.args.params.now c.args.block.now c.as_slice.result.now c.as_slice.ensures c.are_declared.result c.are_declared.ensures c.if-not-are_declared.false)
+    c.loop-next.scoped.bindings c.loop-next.scoped.block
+    (params_all c.args.names.now c.args.params.now c.args.bindings c.requires c.loop-next.scoped.bindings (λ s. inside s c.loop-next.scoped.block) c.loop-next.next-index c.loop-next-test.false c.loop-next.invariant)
+    c.in-Some-2.found.bindings c.in_ok-made-in-Some-2.made.bindings (λ s. ground s (term c.in-Some-2.found.ty)) (λ s. ground s (term c.in_ok-made-in-Some-2.made.ty))
+    (subst (Finds (λ s u. BlockIn (body c.args.block.now).lets (body c.args.block.now).result (env_under s c.loop-next.scoped.block.names) u) c.loop-next.scoped.bindings) c.in-Some-2.is c.in_ok-found.ensures) c.in_ok-made-in-Some-2.ensures

@@ -9,6 +9,9 @@ use Rattle.fx_infer.proofs.PipeArms.{PipesOf}
 use Rattle.fx_infer.proofs.ChainArms.{ChainOf}
 use Rattle.fx_infer.proofs.MoreArms.{ItemsOf}
 use Rattle.fx_infer.proofs.TextArms.{TextOf}
+use Rattle.fx_infer.specs.Functions.{inside}
+use Rattle.fx_infer.proofs.FunctionArms.{ParamsOf}
+use Rattle.fx_infer.proofs.LetArms.{LetsOf, AreBehind}
 use Rattle.fx_infer.proofs.infer.+infer.Given as goal
 
 abbrev pub decreases-infer : goal.decreases-infer
@@ -94,3 +97,21 @@ invariant-infer_args-loop-arg l = (b : Option Builtin) → IsIdOf l.of b → Are
 
 abbrev pub decreases-infer_arg : goal.decreases-infer_arg
 decreases-infer_arg l = 8 * l.room + 1
+
+abbrev pub decreases-infer_function : goal.decreases-infer_function
+decreases-infer_function l = 8 * l.room + 3
+
+abbrev pub invariant-infer_function-loop-next : goal.invariant-infer_function-loop-next
+invariant-infer_function-loop-next l = Infers (ParamsOf l.names (take l.next-index l.params)) l.fn.bindings l.scoped.bindings (λ s. inside s l.scoped.block)
+
+abbrev pub decreases-infer_param : goal.decreases-infer_param
+decreases-infer_param l = 8 * l.room + 2
+
+abbrev pub decreases-infer_default : goal.decreases-infer_default
+decreases-infer_default l = 8 * l.room + 1
+
+abbrev pub decreases-infer_block : goal.decreases-infer_block
+decreases-infer_block l = 8 * l.room + 2
+
+abbrev pub invariant-infer_block-loop-next : goal.invariant-infer_block-loop-next
+invariant-infer_block-loop-next l = Asks (LetsOf l.fn.names (take l.next-index l.next-items)) l.fn.bindings l.asked × AreBehind l.fn.names (take l.next-index l.next-items) l.inner
