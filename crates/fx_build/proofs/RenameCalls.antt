@@ -262,8 +262,7 @@ module _ (olds news : List Label) (r : GroundRow) (same : length olds ≡ length
 
   pub key_fits : ((l : Label) → IsTrue (is_plain (made olds news r same once l))) → (key : Key) → KeyFits r key → KeyFits (made olds news r same once) (key_renamed olds news key)
   key_fits plain key h =
-      let q = made olds news r same once in
-      (
+      let q = made olds news r same once in (
         key_rises olds news key h.0,
         of_parts q _ (parts_put q _ _ (columns_fit key.entries h.1) (in_parts q _ (pinned_fit q plain key.entries))),
       )
