@@ -91,8 +91,7 @@ module _ (r : GroundRow) where
   picked_fits : (picks : Label → Bool) (row : Row) → RowFits r row → TableFits r (picked_table picks row)
   picked_fits picks row fit =
       let whole : Key = record { entries = map column_entry (entries row) } in
-      let left = left_lawful picks (record { key = whole; rows = row ∷ [] }) (record { rising = columns_rise row; columns = (columns_have row, tt) }) in
-      (
+      let left = left_lawful picks (record { key = whole; rows = row ∷ [] }) (record { rising = columns_rise row; columns = (columns_have row, tt) }) in (
         (
           subst (λ es. HasRisingLabels (record { entries = es })) (picked_same picks (entries row)) left.rising,
           subst (AllByRecursion (EntryFits r)) (picked_same picks (entries row)) (entries_left picks (map column_entry (entries row)) (has_fits r (map column_entry (entries row)) row (columns_have row) fit)),

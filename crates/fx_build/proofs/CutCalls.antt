@@ -72,12 +72,14 @@ module _ (place : Place) (r : GroundRow) (plain : (l : Label) → IsTrue (is_pla
   one_stops : (key : Key) (end : End Scalar) → WindowKeyFits r key → IsSafe (IsValue g_int) end → IsSafe (AllByRecursion (KeyedStops counts)) (one_row key (codes "_value") end)
   one_stops key end h safe =
       safe_then (IsValue g_int) (AllByRecursion (KeyedStops counts)) end (λ value. Gives (valued key (codes "_value") value ∷ []) 0) safe
-      (λ a is.
-      ((
-        valued_fits r plain (codes "_value") g_int key a h.0 is,
-        pinned_label key.entries ∙ h.1.0,
-        comes_to_stop (codes "_value") a refl key.entries h.1.0 h.1.1 fin.empty,
-      ), tt))
+      (λ a is. (
+        (
+          valued_fits r plain (codes "_value") g_int key a h.0 is,
+          pinned_label key.entries ∙ h.1.0,
+          comes_to_stop (codes "_value") a refl key.entries h.1.0 h.1.1 fin.empty,
+        ),
+        tt,
+      ))
 
   rows_of : (t : Table) → WindowFits r t → AllByRecursion (RowFits r) t.rows
   rows_of t fit = each_of (WindowRowFits r) (RowFits r) (λ row h. h.0) t.rows fit.1

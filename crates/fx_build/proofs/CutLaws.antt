@@ -220,7 +220,7 @@ module _ (q : GroundRow) (start : q (codes "_start") ≡ g_is g_time) (stop : q 
   row_fits low high last key row rising is_low is_high is_last fit = (
     bounded_rises low high key rising,
     again_fits timed (insert (insert row (codes "_time") (scalar.Time last)) (codes "_start") (scalar.Time low)) (codes "_stop") g_time (scalar.Time high) stop
-    (again_fits timed (insert row (codes "_time") (scalar.Time last)) (codes "_start") g_time (scalar.Time low) start (put_fits q row (codes "_time") g_time (scalar.Time last) fit is_last) is_low) is_high,
+        (again_fits timed (insert row (codes "_time") (scalar.Time last)) (codes "_start") g_time (scalar.Time low) start (put_fits q row (codes "_time") g_time (scalar.Time last) fit is_last) is_low) is_high,
   )
 
   rows_fit : (low high last : ℤ) (key : Key) (rows : List Row) → HasRisingLabels key → IsTrue (in_64_bits low) → IsTrue (in_64_bits high) → IsTrue (in_64_bits last) → AllByRecursion (RowFits q) rows

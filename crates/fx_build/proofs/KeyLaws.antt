@@ -129,7 +129,7 @@ pub key_with_fits : (r : GroundRow) (x : Label) (t : Ground) (value : Scalar) 鈫
 key_with_fits r x t value is key h = (
   key_with_rises key x value h.0,
   entries_with x value (EntryFits r) (EntryFits (put x t r)) (位 l same. subst (位 f. IsTrue (is_column_of f (Some value))) (sym (chosen (same_text l x) (g_is t) (r l) same)) is)
-  (位 e off fit. subst (位 f. IsTrue (is_column_of f (shown e))) (sym (passed (same_text e.label x) (g_is t) (r e.label) off)) fit) key.entries h.0 h.1,
+      (位 e off fit. subst (位 f. IsTrue (is_column_of f (shown e))) (sym (passed (same_text e.label x) (g_is t) (r e.label) off)) fit) key.entries h.0 h.1,
 )
 
 -- a column of its own type

@@ -110,7 +110,7 @@ module _ (r : GroundRow) (xs ys : List Label) (z : Label) (c : Ground) (present 
   values_stand [] row there within fit = tt
   values_stand (l ∷ ls) row there within fit = (
     subst (λ f. IsTrue (is_column_of f (Some (or_null (get row l))))) (sym (ap (λ b. if b then r l else g_is c) (within l (ap (λ b. if b then true else listed l ls) (same_itself l))) ∙ there.0.1))
-    (value_is there.0.0 (get row l) (subst (λ f. IsTrue (is_column_of f (get row l))) there.0.1 (fit l))),
+        (value_is there.0.0 (get row l) (subst (λ f. IsTrue (is_column_of f (get row l))) there.0.1 (fit l))),
     values_stand ls row there.1 (λ k in_ls. within k (later (same_text k l) (listed k ls) in_ls)) fit,
   )
     where
@@ -156,7 +156,7 @@ module _ (r : GroundRow) (xs ys : List Label) (z : Label) (c : Ground) (present 
       at name false e = (
         values_stand xs row present (λ l h. h) fit,
         subst (λ f. IsTrue (is_column_of f (Some (or_null (get row z))))) (sym (ap (λ b. if b then r name else g_is c) (unlisted key name (sym e))))
-        (value_is c (get row z) (subst (λ f. IsTrue (is_column_of f (get row z))) has (fit z))),
+            (value_is c (get row z) (subst (λ f. IsTrue (is_column_of f (get row z))) has (fit z))),
       )
 
   cells_safe : (place : Place) (key : Key) (rows : List Row) → AllByRecursion (RowFits r) rows → IsSafe (AllByRecursion IsCell) (cells_of place xs ys z key rows)

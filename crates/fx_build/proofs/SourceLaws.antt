@@ -220,8 +220,7 @@ module _ (k : Kind) (bucket : Label) (points : List StoredPoint) (lawful : AllBy
       step : (c : Bool) → c ≡ is_wanted k bucket (series_of points id) → TablesFit (row_of_kind (of_kind k)) (map series_table (filter (is_wanted k bucket) (map (series_of points) ids)))
           → TablesFit (row_of_kind (of_kind k)) (map series_table (if c then series_of points id ∷ filter (is_wanted k bucket) (map (series_of points) ids) else filter (is_wanted k bucket) (map (series_of points) ids)))
       step true e rest =
-          let same = (and_parts (same_text bucket id.bucket) (same_kind (Some k) id.kind) (sym e)).1 in
-          (
+          let same = (and_parts (same_text bucket id.bucket) (same_kind (Some k) id.kind) (sym e)).1 in (
             (key_fits k id.key tags.0, rows_fit k id.key (by_time (points_of id points)) (entries_all k (points_of id points) [] (points_all k id points same lawful) tt)),
             rest,
           )

@@ -152,11 +152,10 @@ any_entry (e ∷ es) = (tt, any_entry es)
 
 pub bounded_stops : (start stop : ℤ) (key : Key) → HasRisingLabels key → IsTrue (in_64_bits stop) → EntriesStop (bounded_key start stop key).entries
 bounded_stops start stop key rising is =
-    let before = key_with key (codes "_start") (scalar.Time start) in
-    (
+    let before = key_with key (codes "_start") (scalar.Time start) in (
       label_put (scalar.Time stop) before.entries,
       entries_with (codes "_stop") (scalar.Time stop) (λ e. Unit {0}) EntryStops (λ l same k. is) (λ e off h same. absurd (false≢true (sym off ∙ same))) before.entries
-      (key_with_rises key (codes "_start") (scalar.Time start) rising) (any_entry before.entries),
+          (key_with_rises key (codes "_start") (scalar.Time start) rising) (any_entry before.entries),
     )
 
 pub set_stops : (r : GroundRow) (start stop : ℤ) (key : Key) (row : Row) → HasRisingLabels key → IsTrue (in_64_bits stop)

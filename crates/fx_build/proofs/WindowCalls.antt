@@ -130,8 +130,7 @@ module _ (r : GroundRow) (bounds : HasBounds r) (every period : Span) where
           → AllByRecursion (KeyedStops r) (if c then set_row (raised every p.at.low k) (lowered every period p.at.high k) key p.row ∷ [] else [])
       at true e =
           let both = and_parts (int_le (raised every p.at.low k) p.at.time) (int_lt p.at.time (lowered every period p.at.high k)) (sym e) in
-          let stop = lowered_in p.at.high (window_stop every period k) p.at.time h.1.2 h.1.0 both.1 in
-          (
+          let stop = lowered_in p.at.high (window_stop every period k) p.at.time h.1.2 h.1.0 both.1 in (
             set_stops r (raised every p.at.low k) (lowered every period p.at.high k) key p.row rising stop (set_fits r bounds (raised every p.at.low k) (lowered every period p.at.high k) p.row (raised_in p.at.low (window_start every k) p.at.time h.1.1 h.1.0 both.0) stop h.0),
             tt,
           )
