@@ -11,13 +11,14 @@ use Rattle.fx_schemes.specs.Signature.{form_of}
 use Rattle.fx_schemes.specs.declared.list.Builtin.{Builtin}
 use Rattle.fx_types.specs.Ground.{listed}
 use Rattle.fx_types.specs.Term.{Label}
-use Rattle.fx_value.specs.Ends.{End, Stuck, cut}
+use Rattle.fx_value.specs.Ends.{End, Gives, Stuck, cut}
 use Rattle.fx_value.specs.declared.scalar.Kind.{Kind}
 use Rattle.fx_value.specs.declared.scalar.Kind.TheVariants as kind
 use Rattle.fx_value.specs.declared.scalar.Scalar.{Scalar}
 use Rattle.fx_group.specs.Filter.{filtered, table_if}
 use Rattle.fx_group.specs.Map.{mapped}
 use Rattle.fx_group.specs.Range.{ranged}
+use Rattle.fx_agg.specs.Aggregate.{aggregated}
 use Rattle.fx_agg.specs.Reduce.{reduced}
 use Rattle.fx_join.specs.Joined.{joined}
 use Rattle.fx_join.specs.SameTime.{joined_by_time}
@@ -25,16 +26,19 @@ use Rattle.fx_join.specs.declared.side.Side.{Side}
 use Rattle.fx_join.specs.declared.side.Side.TheVariants.{Full, Inner, Left, Right}
 use Rattle.fx_shape.specs.Columns.{column_filled, column_set}
 use Rattle.fx_shape.specs.Part.{limited, tailed}
+use Rattle.fx_shape.specs.Running.{passed}
 use Rattle.fx_shape.specs.Sort.{rows_sorted}
+use Rattle.fx_window.specs.Aggregated.{window_aggregated}
+use Rattle.fx_window.specs.Window.{windowed}
 use Rattle.fx_meaning.specs.declared.stream.StreamFn.{StreamFn}
 use Rattle.fx_meaning.specs.declared.stream.StreamFn.TheVariants as s
 use Rattle.fx_meaning.specs.Ends.{◌>>=◌, found, pure}
 use Rattle.fx_meaning.specs.Meaning.{Tests}
 use Rattle.fx_meaning.specs.Native.{stream_builtin}
 use Rattle.fx_meaning.specs.Value.{Val, Slots, no_slots, more_slots, look, or_else, push, keep, Stream, applied, Streams, no_streams, more_streams}
-use Rattle.fx_meaning.specs.Forms.{cell_in, each, items_in, val_list}
+use Rattle.fx_meaning.specs.Forms.{cell_in, each, items_in, span_in, val_list}
 use Rattle.fx_meaning.specs.Rows.{row_meaning}
-use Rattle.fx_plan.specs.Operators.{bound_at, bound_or_now, bucket_tables, count_at, count_or_none, drops, flag_or_false, from_array, from_bucket, in_range, moment_in, of_folded_rows, of_made_rows, of_none, of_one, of_pairs, of_places, of_times, of_two, of_wanted_rows, operator, row_in, side_named, sorted_in, text_at, with_value}
+use Rattle.fx_plan.specs.Operators.{aggregate_named, bound_at, bound_or_now, bucket_tables, by_windows, count_at, count_or_none, drops, flag_or, flag_or_false, from_array, from_bucket, in_range, in_windows, length_at, moment_in, of_folded_rows, of_made_rows, of_none, of_one, of_pairs, of_places, of_times, of_two, of_wanted_rows, operator, passed_in, row_count, row_in, second, side_named, sorted_in, span_or, text_at, windows_counted, with_value}
 use Rattle.fx_plan.specs.Plans.{all_arranged, arranged, arranged_args, function_labels, plain_args, push_given, pushed}
 use Rattle.fx_plan.specs.Said.{said_in}
 use Rattle.fx_plan.specs.Sources.{Stored}
@@ -181,6 +185,25 @@ module _ (test : Tests) (stored : Stored) (these those : Slots) (same : (l : Lab
   sort_same w place tables =
       λ i. found (list_at w (codes "columns") (Some (codes "_value" ∷ []))) >>= (λ columns. flag_or_false place (same (codes "desc") i) >>= (λ desc. pure (rows_sorted columns desc tables)))
 
+  passed_same : (w : Given) (place : Place) (tables : List Table) → passed_in w place these tables ≡ passed_in w place those tables
+  passed_same w place tables =
+      λ i. span_or second (same (codes "unit") i)
+      >>= (λ unit. found (word_at w (codes "timeColumn") (Some (codes "_time"))) >>= (λ time. found (word_at w (codes "columnName") (Some (codes "elapsed"))) >>= (λ name. passed place unit time name tables)))
+
+  window_same : (place : Place) (tables : List Table) → in_windows place these tables ≡ in_windows place those tables
+  window_same place tables =
+      λ i. found (same (codes "every") i)
+      >>= (λ v. span_in v >>= (λ every. span_or every (same (codes "period") i) >>= (λ period. windowed place every period tables >>= (λ made. Gives made (row_count made)))))
+
+  windows_same : (w : Given) (place : Place) (tables : List Table) → by_windows w place these tables ≡ by_windows w place those tables
+  windows_same w place tables =
+      λ i. found (same (codes "every") i)
+      >>= (λ v. length_at place v
+      >>= (λ every. found (word_at w (codes "fn") None)
+      >>= (λ name. found (aggregate_named name)
+      >>= (λ which. flag_or true place (same (codes "createEmpty") i)
+      >>= (λ all. windows_counted every all tables >>= (λ windows. window_aggregated place (aggregated place which (codes "_value")) every all tables))))))
+
   filter_same : (w : Given) (limit : ℕ) (tables : List Table) → of_wanted_rows test stored w these tables limit ≡ of_wanted_rows test stored w those tables limit
   filter_same w limit tables = λ i. if drops w then (found (same (codes "fn") i) >>= (λ f. filtered (row_meaning test f) tables limit)) else Stuck
 
@@ -218,6 +241,9 @@ module _ (test : Tests) (stored : Stored) (these those : Slots) (same : (l : Lab
   operator_same s.JoinRight place w limit = λ i. of_two (λ ls rs. pair_same Right limit ls rs i)
   operator_same s.JoinFull place w limit = λ i. of_two (λ ls rs. pair_same Full limit ls rs i)
   operator_same s.JoinTime place w limit = λ i. of_two (λ ls rs. time_same w limit ls rs i)
+  operator_same s.Window place w limit = λ i. of_one (λ tables. window_same place tables i)
+  operator_same s.AggregateWindow place w limit = λ i. of_one (λ tables. windows_same w place tables i)
+  operator_same s.Elapsed place w limit = λ i. of_one (λ tables. passed_same w place tables i)
   operator_same s.Sort place w limit = λ i. of_one (λ tables. sort_same w place tables i)
   operator_same _ place w limit = refl
 
