@@ -1,5 +1,5 @@
 -- What members are called as.
-use Rattle.std.proofs.Common.{◌≡◌, ◌⊎◌, inl, inr, refl, sym, ap, subst, ◌∙◌, List, Option, None, Some, Result, IfOk}
+use Rattle.std.proofs.Common.{◌≡◌, inl, inr, refl, sym, ap, subst, ◌∙◌, List, Option, None, Some, Result, IfOk}
 use Rattle.std.specs.Prelude.{option_map}
 use Rattle.fx_base.specs.declared.place.Place.{Place}
 use Rattle.fx_ast.specs.Shape.{tree_of, shape_of}
