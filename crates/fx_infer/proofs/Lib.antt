@@ -20,6 +20,7 @@ pub mod KeptLaws
 pub mod LetArms
 pub mod ListLaws
 pub mod MemberArms
+pub mod MemberCallees
 pub mod MoreArms
 pub mod NameArms
 pub mod NativeLaws

@@ -1,11 +1,16 @@
 //! What a call calls.
 
 ghost use Rattle.std.specs.Prelude.{◌≡◌, false, IfOk};
+ghost use Rattle.fx_base.specs.declared.place.Place.{Place};
 ghost use Rattle.fx_ast.specs.Shape.{tree_of};
+ghost use Rattle.fx_ast.specs.Tree.{tree, member};
 ghost use Rattle.fx_types.specs.Ground.{listed};
-ghost use Rattle.fx_infer.specs.Callees.{is_literal, IsCallee, IsCalleeName};
-ghost use Rattle.fx_infer.specs.Names.{labels_among};
+ghost use Rattle.fx_infer.specs.Callees.{is_literal, IsCalledAs, IsCallee, IsCalleeName};
+ghost use Rattle.fx_infer.specs.Environment.{scope};
+ghost use Rattle.fx_infer.specs.Names.{env_under, labels_among};
+ghost use Rattle.fx_infer.specs.Typing.{callee};
 
+use crate::members::package;
 use crate::scope::{Bound, Name, newest};
 use crate::stop::Stop;
 use fx_ast::{Expr, Node};
@@ -30,7 +35,7 @@ pub(crate) fn callee_of(alloc: Global, names: &[Name<'_>], expr: &Expr) -> Resul
 {
     match expr.node.get() {
         Node::Name(label) => Ok(callee_of_name(alloc, names, label)?),
-        Node::Member { .. } => Err(Stop::NotYet),
+        Node::Member { of, label } => callee_of_member(names, of, label),
         _ => {
             if is_literal(expr) {
                 Ok(Callee::Literal)
@@ -38,6 +43,20 @@ pub(crate) fn callee_of(alloc: Global, names: &[Name<'_>], expr: &Expr) -> Resul
                 Ok(Callee::Value)
             }
         }
+    }
+}
+
+/// What a call of the member calls. Of built-ins of packages it isn't told yet.
+fn callee_of_member(names: &[Name<'_>], of: &Expr, label: &Text) -> Result<Callee, Stop>
+    ensures { (place : Place) → IfOk result (IsCalledAs (λ s. callee (tree place (member (tree_of of.now) label.now)) (scope (env_under s names.now)))) }
+{
+    let path = match package(names, of) {
+        Some(path) => path,
+        None => return Ok(Callee::Value),
+    };
+    match builtin(path, label) {
+        Some(_) => Err(Stop::NotYet),
+        None => Ok(Callee::Value),
     }
 }
 
