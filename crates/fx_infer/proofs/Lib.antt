@@ -17,6 +17,7 @@ pub mod FunctionArms
 pub mod FunctionLaws
 pub mod InfersLaws
 pub mod KeptLaws
+pub mod KeptNames
 pub mod LetArms
 pub mod ListLaws
 pub mod MemberArms
@@ -30,6 +31,7 @@ pub mod RowLaws
 pub mod RuleLaws
 pub mod ScopeLaws
 pub mod ScriptLaws
+pub mod StatementLaws
 pub mod TextArms
 pub mod TypingLaws
 pub mod UseLaws

@@ -40,7 +40,7 @@ past_entry x (param y u) env h = λ i q. either_not (same_text x y) (of_type u q
 past_entry x (assigned y e) env h = λ i q. either_not (same_text x y) (has e (scope env) q) (scope env x q) h i
 past_entry x (imported y path) env h = λ i q. either_not (same_text x y) (of_package path q) (scope env x q) h i
 
-label_by : (s : Solution) (x : Label) (b : bounds.Bound) → label_of (entry_by s x b) ≡ x
+pub label_by : (s : Solution) (x : Label) (b : bounds.Bound) → label_of (entry_by s x b) ≡ x
 label_by s x (bound.Param n) = refl
 label_by s x (bound.Assigned e) = refl
 label_by s x (bound.Imported path) = refl

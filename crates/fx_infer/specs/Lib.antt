@@ -6,6 +6,7 @@ pub mod Environment
 pub mod Finds
 pub mod Functions
 pub mod Infers
+pub mod Kept
 pub mod Lists
 pub mod Members
 pub mod Names
@@ -15,6 +16,7 @@ pub mod Parameters
 pub mod Records
 pub mod Rules
 pub mod Script
+pub mod Statements
 pub mod Texts
 pub mod Typing
 pub mod Uses
