@@ -1,4 +1,4 @@
-ghost use Rattle.std.specs.Prelude.{IfOk};
+ghost use Rattle.std.specs.Prelude.{◌≡◌, [], ◌∷◌, IfOk};
 ghost use Rattle.fx_data.specs.Table.{HasRisingLabels};
 
 use fx_base::{List, Memory, Text};
@@ -103,8 +103,10 @@ fn host_of(alloc: Global, number: u64) -> Result<Text, Memory> {
     }
 }
 
-/// A list of one label; as with all that is only measured, nothing is promised.
-pub fn one_label(alloc: Global, name: &str) -> Result<List<Text>, Memory> {
+/// A list of one label.
+pub fn one_label(alloc: Global, name: &str) -> Result<List<Text>, Memory>
+    ensures { IfOk result (λ labels. labels ≡ name.now ∷ []) }
+{
     let mut labels = List::empty(alloc);
     labels.push(Text::of(alloc, name)?)?;
     Ok(labels)

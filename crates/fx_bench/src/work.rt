@@ -329,7 +329,7 @@ fn windowed(alloc: Global, tables: Tables) -> Result<Tables, Halt> {
 fn cut_up(alloc: Global, tables: Tables) -> Result<Tables, Memory> {
     let every = Span { months: 0, nanos: 10 };
     if have_times(alloc, tables.as_slice())? {
-        if let Some(table) = tables.as_slice().first() {
+        if let [table, ..] = tables.as_slice() {
             return Ok(cut(alloc, table, every, false)?.windows);
         }
     }
