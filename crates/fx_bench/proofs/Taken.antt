@@ -1,9 +1,8 @@
 -- Which tables windows, pivots, joins and differences take.
-use Rattle.std.proofs.Common.{◌≡◌, ◌≢◌, ℕ, ℤ, Bool, true, false, List, [], ◌∷◌, ◌++◌, ◌-ℤ◌, refl, sym, subst}
+use Rattle.std.proofs.Common.{◌≡◌, ◌≢◌, ℕ, ◌≤◌, ℤ, Bool, true, false, List, [], ◌∷◌, ◌++◌, ◌-ℤ◌, get_or, length, refl, sym, subst, arith}
 use Rattle.std.specs.Prelude.{Option, None, Some, ◌&&◌, codes, if◌then◌else◌}
 use Rattle.std.specs.FinMap.{get, insert}
-use Rattle.std.specs.Text.{join_by}
-use Rattle.std.specs.List.{AllByRecursion, list_all}
+use Rattle.std.specs.List.{AllByRecursion, join_by, list_all}
 use Rattle.fx_base.specs.declared.fault.FaultKind.TheVariants.{Overflow}
 use Rattle.fx_base.specs.declared.place.Place.{Place}
 use Rattle.fx_data.specs.Regrouped.{regrouped}
@@ -72,8 +71,9 @@ all_timed tables h = let bounds = second_true _ _ h in tables_timed tables (firs
 pub timed_window : (place : Place) (every period : Span) (tables : List Table) → have_times tables ≡ true → windowed place every period tables ≢ Stuck
 timed_window place every period tables h = window_never_stuck every period place tables (all_timed tables h)
 
-pub timed_cut : (every : Span) (all : Bool) (t : Table) (tables : List Table) → have_times (t ∷ tables) ≡ true → cut_of every all t ≢ Stuck
-timed_cut every all t tables h = cut_never_stuck every all t (all_timed (t ∷ tables) h).0
+pub timed_cut : (every : Span) (all : Bool) (t : Table) (tables : List Table) → 1 ≤ length tables → t ≡ get_or tables 0 t → have_times tables ≡ true → cut_of every all t ≢ Stuck
+timed_cut every all t [] some is h = absurd (omega arith)
+timed_cut every all t (first ∷ tables) some is h = subst (λ (x : Table). cut_of every all x ≢ Stuck) (sym is) (cut_never_stuck every all first (all_timed (first ∷ tables) h).0)
 
 -- ---- joins of no pairs
 
