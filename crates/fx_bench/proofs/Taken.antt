@@ -174,8 +174,8 @@ module _ (place : Place) (column : Label) where
   tables_taken [] is = tt
   tables_taken (t ∷ tables) is = (
     then_unstuck (ran_rows latest read (less_last place column) None t.rows) (λ (rows : List Row). Gives (keyed t.key rows) 0)
-    (each_unstuck (ran_row latest read (less_last place column)) (with_before latest read None t.rows) (rows_taken None t.rows (first_true _ _ is)))
-    (λ rows. gives_unstuck (keyed t.key rows)),
+        (each_unstuck (ran_row latest read (less_last place column)) (with_before latest read None t.rows) (rows_taken None t.rows (first_true _ _ is)))
+        (λ rows. gives_unstuck (keyed t.key rows)),
     tables_taken tables (second_true _ _ is),
   )
 

@@ -38,7 +38,10 @@ pub fn mixed_table(alloc: Global, rows: i64) -> Result<Tables, Memory> {
 
 /// Tables as above, with rows that have the bounds of all times as `_start` and `_stop`.
 pub fn bounded_tables(alloc: Global, tables: u64, rows: i64) -> Result<Tables, Memory> {
-    let key = key_of(alloc, &["_field", "_measurement", "_start", "_stop", "host"])?;
+    let key = key_of(
+        alloc,
+        &["_field", "_measurement", "_start", "_stop", "host"],
+    )?;
     let mut runs = Runs::empty(alloc);
     for number in 0..tables {
         let head = head_of(alloc, number)?

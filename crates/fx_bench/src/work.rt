@@ -310,15 +310,23 @@ fn have_times(alloc: Global, tables: &[Table]) -> Result<bool, Memory>
     let time = Text::of(alloc, "_time")?;
     let start = Text::of(alloc, "_start")?;
     let stop = Text::of(alloc, "_stop")?;
-    Ok(have_timed_rows(&time, tables)
-        && have_timed_rows(&start, tables)
-        && have_timed_rows(&stop, tables))
+    Ok(
+        have_timed_rows(&time, tables)
+            && have_timed_rows(&start, tables)
+            && have_timed_rows(&stop, tables),
+    )
 }
 
 /// Each row in ten windows; the test is a part of what is measured.
 fn windowed(alloc: Global, tables: Tables) -> Result<Tables, Halt> {
-    let every = Span { months: 0, nanos: 10 };
-    let period = Span { months: 0, nanos: 100 };
+    let every = Span {
+        months: 0,
+        nanos: 10,
+    };
+    let period = Span {
+        months: 0,
+        nanos: 100,
+    };
     if have_times(alloc, tables.as_slice())? {
         return window(alloc, tables, every, period, Place { at: 0 });
     }
@@ -327,7 +335,10 @@ fn windowed(alloc: Global, tables: Tables) -> Result<Tables, Halt> {
 
 /// 100,000 windows of the first table; the test is a part of what is measured.
 fn cut_up(alloc: Global, tables: Tables) -> Result<Tables, Memory> {
-    let every = Span { months: 0, nanos: 10 };
+    let every = Span {
+        months: 0,
+        nanos: 10,
+    };
     if have_times(alloc, tables.as_slice())? {
         if let [table, ..] = tables.as_slice() {
             return Ok(cut(alloc, table, every, false)?.windows);
