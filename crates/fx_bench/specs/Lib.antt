@@ -1,3 +1,4 @@
 pub mod Counted
 pub mod FirstRow
+pub mod Named
 pub mod Timed

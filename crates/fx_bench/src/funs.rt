@@ -41,6 +41,45 @@ impl RowFun for AllRows {
     }
 }
 
+/// Wants no row.
+pub struct NoRows;
+
+impl RowFun for NoRows {
+    ghost use Rattle.std.specs.Prelude.{[]};
+    ghost use Rattle.fx_value.specs.Ends.{Gives};
+    ghost use Rattle.fx_value.specs.declared.answer.Answer.TheVariants.{Cell};
+    ghost use Rattle.fx_value.specs.declared.scalar.Scalar.TheVariants.{Bool};
+    ghost use Rattle.std.specs.Prelude.{false};
+    ghost use Rattle.fx_bench.specs.FirstRow.{always_limited};
+
+    ghost numbers = { λ f. [] };
+
+    ghost means = { λ f says rows limit. Gives (Cell (Bool false)) 0 };
+
+    ghost limited = { λ f says rows. always_limited (Cell (Bool false)) };
+
+    fn call_one<P: Patterns>(
+        &self,
+        _alloc: Global,
+        _row: &Row,
+        _meter: &mut Meter,
+        _patterns: &mut P,
+    ) -> Result<Answer, Halt> {
+        Ok(Answer::Cell(Scalar::Bool(false)))
+    }
+
+    fn call_two<P: Patterns>(
+        &self,
+        _alloc: Global,
+        _first: &Row,
+        _second: &Row,
+        _meter: &mut Meter,
+        _patterns: &mut P,
+    ) -> Result<Answer, Halt> {
+        Ok(Answer::Cell(Scalar::Bool(false)))
+    }
+}
+
 /// Gives a label of the first row this value.
 #[derive(Drop)]
 pub struct SetLabel {

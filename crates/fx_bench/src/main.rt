@@ -22,7 +22,7 @@ fn main(rt: HostRuntime) -> ExitCode {
     }
     if !known {
         let _ = println!(&rt;
-            "fx_bench WORD ..; words: make, range, filter, map, map-new, group, group-time, except, union, count, sum, min, last, distinct, distinct-all, reduce"
+            "fx_bench WORD ..; words: make, range, filter, map, map-new, group, group-time, except, union, count, sum, min, last, distinct, distinct-all, reduce, window, cut, join, pivot, keep, drop, rename, duplicate, set, fill, sort, sort-sorted, difference"
         );
     }
     ExitCode::from(0)

@@ -1,4 +1,4 @@
-ghost use Rattle.std.specs.Prelude.{IfOk};
+ghost use Rattle.std.specs.Prelude.{◌≡◌, [], ◌∷◌, IfOk};
 ghost use Rattle.fx_data.specs.Table.{HasRisingLabels};
 
 use fx_base::{List, Memory, Text};
@@ -22,6 +22,45 @@ pub fn made_tables(alloc: Global, tables: u64, rows: i64) -> Result<Tables, Memo
         }
     }
     runs.into_tables(alloc)
+}
+
+/// One table of rows whose values are in no order.
+pub fn mixed_table(alloc: Global, rows: i64) -> Result<Tables, Memory> {
+    let key = key_of(alloc, &["_field", "_measurement", "host", "region", "zone"])?;
+    let shape = Shape::of(alloc, head_of(alloc, 0)?)?;
+    let mut runs = Runs::empty(alloc);
+    for i in 0..rows {
+        let value = Scalar::Int(i.wrapping_mul(6_364_136_223_846_793_005));
+        runs = runs.push(alloc, &key, Row::of(&shape, Scalar::Time(i), value)?)?;
+    }
+    runs.into_tables(alloc)
+}
+
+/// Tables as above, with rows that have the bounds of all times as `_start` and `_stop`.
+pub fn bounded_tables(alloc: Global, tables: u64, rows: i64) -> Result<Tables, Memory> {
+    let key = key_of(
+        alloc,
+        &["_field", "_measurement", "_start", "_stop", "host"],
+    )?;
+    let mut runs = Runs::empty(alloc);
+    for number in 0..tables {
+        let head = head_of(alloc, number)?
+            .with(alloc, &Text::of(alloc, "_start")?, fixed_time(0))?
+            .with(alloc, &Text::of(alloc, "_stop")?, fixed_time(rows))?;
+        let shape = Shape::of(alloc, head)?;
+        for i in 0..rows {
+            runs = runs.push(
+                alloc,
+                &key,
+                Row::of(&shape, Scalar::Time(i), Scalar::Int(i))?,
+            )?;
+        }
+    }
+    runs.into_tables(alloc)
+}
+
+fn fixed_time(time: i64) -> Source {
+    Source::Fixed(Scalar::Time(time))
 }
 
 /// A key of these labels; rows that are regrouped under it get their own values.
@@ -67,8 +106,10 @@ fn host_of(alloc: Global, number: u64) -> Result<Text, Memory> {
     }
 }
 
-/// A list of one label; as with all that is only measured, nothing is promised.
-pub fn one_label(alloc: Global, name: &str) -> Result<List<Text>, Memory> {
+/// A list of one label.
+pub fn one_label(alloc: Global, name: &str) -> Result<List<Text>, Memory>
+    ensures { IfOk result (λ labels. labels ≡ name.now ∷ []) }
+{
     let mut labels = List::empty(alloc);
     labels.push(Text::of(alloc, name)?)?;
     Ok(labels)
